@@ -1,0 +1,6 @@
+pub mod Progress
+pub mod Serving
+pub mod Runs
+pub mod Filling
+pub mod Tears
+pub mod MemImages

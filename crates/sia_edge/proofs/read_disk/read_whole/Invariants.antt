@@ -1,0 +1,14 @@
+use Rattle.std.proofs.Common.{◌≡◌, ◌≤◌, ◌<◌, ◌-◌, ℕ, IsTrue, take, drop, length, slice_index}
+use Rattle.sia_edge.specs.Disk.{Quiet}
+use Rattle.sia_edge.proofs.read_disk.read_whole.Given as goal
+
+abbrev pub invariant-loop-done : goal.invariant-loop-done
+invariant-loop-done g l =
+    (l.done ≤ length l.buffer)
+    × (IsTrue g.D.Disk.tells → take l.done l.buffer ≡ take l.done (drop l.at (g.D.Disk.seen l.fn.disk)))
+    × ((i : ℕ) → slice_index l.buffer i < 256)
+    × Quiet g.D.Disk.seen g.D.Disk.moment g.D.Disk.since l.fn.disk l.disk
+    × (g.D.Disk.faults l.fn.disk ≤ g.D.Disk.faults l.disk)
+
+abbrev pub decreases-loop-done : goal.decreases-loop-done
+decreases-loop-done g l = length l.initial.buffer - l.done

@@ -1,0 +1,7 @@
+pub mod Edge
+pub mod Memory
+pub mod Whole
+pub mod Disk
+pub mod MemDisk
+pub mod FileDisk
+pub mod Empty

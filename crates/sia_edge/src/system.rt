@@ -1,0 +1,225 @@
+//! Files and standard streams as sources and sinks. No contract says which bytes they give or take.
+ghost use Rattle.std.specs.Prelude.{◌≡◌, ◌≤◌, None, IsNone, length};
+ghost use Rattle.sia_edge.specs.Edge.{GotWithin, Reads, GotCause, PutWithin, Writes, PutCause};
+
+use crate::{Got, Put, Sink, Source};
+use std::fs::{self, File};
+use std::io::{ErrorKind, Read, Stderr, Stdout, Write};
+use std::rt::Files;
+use std::str;
+
+/// One read, tried again where a signal interrupts it.
+fn read_some<R: Read>(reader: &mut R, buffer: &mut [u8]) -> Got
+    ensures { GotWithin result (length buffer.new) }
+{
+    for _ in 0..u64::MAX {
+        match reader.read(buffer) {
+            Ok(0) => return Got::End,
+            Ok(count) => return Got::Bytes(count),
+            Err(error) if error.kind() == ErrorKind::Interrupted => {}
+            Err(_) => return Got::Failed,
+        }
+    }
+    Got::Failed
+}
+
+/// One write, tried again where a signal interrupts it. Taking none of a piece that isn't empty is a failure.
+fn write_some<W: Write>(writer: &mut W, piece: &[u8]) -> Put
+    ensures { PutWithin result (length piece.now) }
+{
+    if piece.is_empty() {
+        return Put::Taken(0);
+    }
+    for _ in 0..u64::MAX {
+        match writer.write(piece) {
+            Ok(0) => return Put::Failed,
+            Ok(count) => return Put::Taken(count),
+            Err(error) if error.kind() == ErrorKind::Interrupted => {}
+            Err(_) => return Put::Failed,
+        }
+    }
+    Put::Failed
+}
+
+/// A file that is read from its start to its end, or none, for a file that didn't open.
+#[derive(Drop)]
+pub struct FileSource {
+    file: Option<File>,
+    faults: u64,
+}
+
+impl FileSource {
+    /// Reads this file from where it stands.
+    pub fn new(file: File) -> FileSource
+        ensures { result.faults ≡ 0 }
+    {
+        FileSource {
+            file: Some(file),
+            faults: 0,
+        }
+    }
+
+    /// No file: each read fails and counts.
+    pub fn empty() -> FileSource
+        ensures file { IsNone result.file }
+        ensures faults { result.faults ≡ 0 }
+    {
+        FileSource {
+            file: None,
+            faults: 0,
+        }
+    }
+
+    /// Opens the file of this name for reading, and is empty where it can't be opened. A name that isn't UTF-8 can't.
+    pub fn open<R: Files<File = File>>(rt: &R, name: &[u8]) -> FileSource
+        ensures { result.faults ≡ 0 }
+    {
+        let Ok(path) = str::from_utf8(name) else {
+            return FileSource::empty();
+        };
+        match fs::open(rt, path) {
+            Ok(file) => FileSource::new(file),
+            Err(_) => FileSource::empty(),
+        }
+    }
+}
+
+impl Source for FileSource {
+    ghost left = { λ source. None };
+
+    ghost faults = { λ source. source.faults };
+
+    fn read(&mut self, buffer: &mut [u8]) -> Got
+        ensures bound { GotWithin result (length buffer.new) }
+        ensures bytes { Reads None None result buffer.new }
+        ensures cause { GotCause self.old.faults self.new.faults result }
+        ensures empty { IsNone self.old.file → (result ≡ Got.Failed) × IsNone self.new.file }
+    {
+        let got = match &mut self.file {
+            Some(file) => read_some(file, buffer),
+            None => Got::Failed,
+        };
+        if got == Got::Failed {
+            self.faults = self.faults.saturating_add(1);
+        }
+        got
+    }
+}
+
+/// A file that is written from its start, or none, for a file that didn't open.
+#[derive(Drop)]
+pub struct FileSink {
+    file: Option<File>,
+    faults: u64,
+}
+
+impl FileSink {
+    /// Writes to this file from where it stands.
+    pub fn new(file: File) -> FileSink
+        ensures { result.faults ≡ 0 }
+    {
+        FileSink {
+            file: Some(file),
+            faults: 0,
+        }
+    }
+
+    /// No file: each write fails and counts.
+    pub fn empty() -> FileSink
+        ensures file { IsNone result.file }
+        ensures faults { result.faults ≡ 0 }
+    {
+        FileSink {
+            file: None,
+            faults: 0,
+        }
+    }
+
+    /// Makes or empties the file of this name, and is empty where that can't be done. A name that isn't UTF-8 can't.
+    pub fn create<R: Files<File = File>>(rt: &R, name: &[u8]) -> FileSink
+        ensures { result.faults ≡ 0 }
+    {
+        let Ok(path) = str::from_utf8(name) else {
+            return FileSink::empty();
+        };
+        match fs::create(rt, path) {
+            Ok(file) => FileSink::new(file),
+            Err(_) => FileSink::empty(),
+        }
+    }
+}
+
+impl Sink for FileSink {
+    ghost taken = { λ sink. None };
+
+    ghost faults = { λ sink. sink.faults };
+
+    fn write(&mut self, piece: &[u8]) -> Put
+        ensures bound { PutWithin result (length piece.now) }
+        ensures bytes { Writes None None result piece.now }
+        ensures cause { PutCause self.old.faults self.new.faults result }
+        ensures empty { IsNone self.old.file → (result ≡ Put.Failed) × IsNone self.new.file }
+    {
+        let put = match &mut self.file {
+            Some(file) => write_some(file, piece),
+            None => Put::Failed,
+        };
+        if put == Put::Failed {
+            self.faults = self.faults.saturating_add(1);
+        }
+        put
+    }
+}
+
+/// Which standard stream.
+#[derive(Drop)]
+enum Stream {
+    Output(Stdout),
+    Error(Stderr),
+}
+
+/// Standard output or standard error, as one type. Each write goes to the system at once.
+#[derive(Drop)]
+pub struct StdSink {
+    stream: Stream,
+    faults: u64,
+}
+
+impl StdSink {
+    /// Standard output.
+    pub fn output(stream: Stdout) -> StdSink
+        ensures { result.faults ≡ 0 }
+    {
+        StdSink {
+            stream: Stream::Output(stream),
+            faults: 0,
+        }
+    }
+
+    /// Standard error.
+    pub fn error(stream: Stderr) -> StdSink
+        ensures { result.faults ≡ 0 }
+    {
+        StdSink {
+            stream: Stream::Error(stream),
+            faults: 0,
+        }
+    }
+}
+
+impl Sink for StdSink {
+    ghost taken = { λ sink. None };
+
+    ghost faults = { λ sink. sink.faults };
+
+    fn write(&mut self, piece: &[u8]) -> Put {
+        let put = match &mut self.stream {
+            Stream::Output(stream) => write_some(stream, piece),
+            Stream::Error(stream) => write_some(stream, piece),
+        };
+        if put == Put::Failed {
+            self.faults = self.faults.saturating_add(1);
+        }
+        put
+    }
+}
