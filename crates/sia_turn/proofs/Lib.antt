@@ -1,0 +1,9 @@
+pub mod EntryLemmas
+pub mod Rolls
+pub mod Standing
+pub mod Taking
+pub mod Owners
+pub mod Passing
+pub mod Meeting
+pub mod Ending
+pub mod Held

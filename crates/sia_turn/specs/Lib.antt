@@ -1,0 +1,5 @@
+pub mod Entries
+pub mod Tokens
+pub mod Views
+pub mod Turning
+pub mod Steps
