@@ -1,0 +1,8 @@
+use Rattle.std.proofs.Common.{◌≡◌, length, take, min, ap, ◌∙◌, arith}
+use Rattle.std.proofs.lemmas.List.{take_min}
+use Rattle.sia_merkle.proofs.whole.leaf_of.Goals as goal
+
+pub returns : goal.returns
+returns c =
+    let least : c.min.result ≡ min 64 (length c.split_at.result.1.now) = omega arith in
+    c.split_at-2.ensures.front ∙ ap (λ n. take n c.split_at.result.1.now) least ∙ take_min 64 c.split_at.result.1.now ∙ ap (take 64) c.split_at.ensures.back
