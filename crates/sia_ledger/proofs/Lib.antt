@@ -1,0 +1,10 @@
+pub mod Amount
+pub mod FactLists
+pub mod ChainLists
+pub mod Repeats
+pub mod Verdicts
+pub mod Keeping
+pub mod Lengths
+pub mod Covered
+pub mod Apart
+pub mod MadeTwice

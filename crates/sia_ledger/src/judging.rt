@@ -1,0 +1,86 @@
+//! Whether a block may follow, and whether a chain may begin.
+ghost use Rattle.std.specs.Prelude.{◌≡◌, ◌≤◌, ◌^◌, IfOk};
+ghost use Rattle.sia_ledger.specs.Answers.{Judges, JudgesGenesis};
+ghost use Rattle.sia_ledger.specs.Facts.{block_facts};
+ghost use Rattle.sia_ledger.specs.Identifiers.{block_id};
+ghost use Rattle.sia_ledger.specs.Refusal.{verdict, genesis_refusal};
+
+use crate::amounts::{has_empty_fund, has_empty_payout, subsidy_at, sum_of_funds, sum_of_payouts};
+use crate::block::{Block, Params};
+use crate::fact::Fact;
+use crate::fault::{BlockFault, GenesisFault};
+use crate::ids::id_of_block;
+use crate::made::repeated_id;
+use crate::making::facts_of_block;
+use sia_blake::Hash;
+use sia_encoding::List;
+use std::alloc::Global;
+
+/// The greatest height of a block.
+const LAST_HEIGHT: u64 = 0xFFFF_FFFF;
+
+/// How many siafunds there are.
+const FUND_COUNT: u128 = 10_000;
+
+/// The longest that a miner payout may rest, in blocks.
+const LONGEST_MATURITY: u64 = 10_000;
+
+/// What a new block makes, and its identifier.
+#[derive(Drop)]
+pub(crate) struct Judged {
+    pub id: Hash,
+    pub made: List<Fact>,
+}
+
+/// Judges a block at a height, on a tip and behind what its chain has made: what it makes, or the first rule that it
+/// breaks.
+#[tactic(auto, unfolding(crate::specs::Refusal::verdict))]
+pub(crate) fn judge(
+    alloc: Global,
+    tip: &Hash,
+    maturity: u64,
+    height: u64,
+    kept: &[Fact],
+    block: &Block,
+) -> Result<Judged, BlockFault>
+    requires maturity { maturity ≤ 10000 }
+    requires height { height ≤ 2 ^ 32 }
+    ensures judged { Judges result (verdict tip.now maturity height kept.now block.now) }
+    ensures id { IfOk result (λ judged. judged.id ≡ block_id block.now) }
+    ensures made { IfOk result (λ judged. judged.made ≡ block_facts maturity height block.now) }
+{
+    if block.parent != *tip {
+        let tip = *tip;
+        return Err(BlockFault::BadParent { tip });
+    }
+    if height > LAST_HEIGHT {
+        return Err(BlockFault::HeightEnd);
+    }
+    let payouts = block.payouts.as_slice();
+    let need = subsidy_at(height);
+    let got = sum_of_payouts(payouts);
+    if got != need || has_empty_payout(payouts) {
+        return Err(BlockFault::PayoutSum { need, got });
+    }
+    let id = id_of_block(alloc, block)?;
+    let made = facts_of_block(alloc, maturity, height, &id, block)?;
+    match repeated_id(kept, made.as_slice()) {
+        Some(id) => Err(BlockFault::SameId { id }),
+        None => Ok(Judged { id, made }),
+    }
+}
+
+/// Whether a chain may begin from the parameters.
+pub(crate) fn check_params(params: &Params) -> Result<(), GenesisFault>
+    ensures { JudgesGenesis result (genesis_refusal params.now) }
+{
+    let funds = params.funds.as_slice();
+    let got = sum_of_funds(funds);
+    if got != FUND_COUNT || has_empty_fund(funds) {
+        return Err(GenesisFault::FundSum { got });
+    }
+    if params.maturity < 1 || params.maturity > LONGEST_MATURITY {
+        return Err(GenesisFault::Maturity);
+    }
+    Ok(())
+}
