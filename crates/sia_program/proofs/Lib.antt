@@ -1,0 +1,5 @@
+pub mod Documents
+pub mod Feeds
+pub mod Founding
+pub mod Siafunds
+pub mod Tellings

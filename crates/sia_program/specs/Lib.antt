@@ -1,0 +1,6 @@
+pub mod Answer
+pub mod Config
+pub mod Feed
+pub mod Outcome
+pub mod Steps
+pub mod Texts

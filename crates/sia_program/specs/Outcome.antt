@@ -1,0 +1,63 @@
+-- What the command `ledger` is to do with the bytes of its configuration and of its feed.
+use Rattle.std.specs.Prelude.{ℕ, ◌^◌, List, [], ◌∷◌, length, nat_le, ◌==◌, if◌then◌else◌, Option, Some, None, Result, Ok, Err}
+use Rattle.sia_ledger.specs.declared.fault.BlockFault.{BlockFault}
+use Rattle.sia_ledger.specs.declared.block.Block.{Block}
+use Rattle.sia_ledger.specs.Chain.{Chain, height, begun, extended, shortened}
+use Rattle.sia_ledger.specs.Holdings.{tip, sums_of}
+use Rattle.sia_ledger.specs.Refusal.{refusal as refusal_of}
+use Rattle.sia_program.specs.declared.feed.Entry.{Entry}
+use Rattle.sia_program.specs.declared.feed.Entry.TheVariants as entry
+use Rattle.sia_program.specs.declared.stop.Refusal.{Refusal}
+use Rattle.sia_program.specs.declared.stop.Refusal.TheVariants as refusal
+use Rattle.sia_program.specs.declared.stop.Stop.{Stop}
+use Rattle.sia_program.specs.declared.stop.Stop.TheVariants as stop
+use Rattle.sia_program.specs.Config.{config_of}
+use Rattle.sia_program.specs.Feed.{entries_of}
+use Rattle.sia_program.specs.Steps.{◌>>=◌, or_config_refused, or_refused}
+use Rattle.sia_program.specs.Texts.{sums_text}
+
+-- a block behind a chain, or the rule that it breaks
+abbrev pub judged : Chain → Block → Option BlockFault → Result Chain Refusal
+judged chain block None = Ok (extended chain block)
+judged chain block (Some fault) = Err (refusal.Block (height chain) fault)
+
+unfoldable pub applied : Chain → Block → Result Chain Refusal
+applied chain block = judged chain block (refusal_of chain block)
+
+-- a chain without its last block, if it has one
+unfoldable pub reverted : Chain → Result Chain Refusal
+reverted chain = if height chain == 0 then Err refusal.NoBlock else Ok (shortened chain)
+
+abbrev pub stepped : Chain → Entry → Result Chain Refusal
+stepped chain (entry.Apply block) = applied chain block
+stepped chain entry.Revert = reverted chain
+
+-- the records of a feed in turn, up to the first that is refused
+abbrev pub run : Chain → List Entry → Result Chain Refusal
+run chain [] = Ok chain
+run chain (entry ∷ entries) = stepped chain entry >>= (λ next. run next entries)
+
+-- bytes that are no more than a bound
+unfoldable pub within : ℕ → List ℕ → Result (List ℕ) Stop
+within bound bytes = if nat_le (length bytes) bound then Ok bytes else Err stop.Long
+
+-- the chain that a configuration of at most 65,536 bytes begins
+unfoldable pub begin : List ℕ → Result Chain Stop
+begin config = do
+  bytes ← within 65536 config
+  params ← or_config_refused (config_of bytes)
+  Ok (begun params)
+
+-- the text of the chain that a feed of at most 2^30 bytes makes of another
+unfoldable pub finish : Chain → List ℕ → Result (List ℕ) Stop
+finish first feed = do
+  bytes ← within (2 ^ 30) feed
+  entries ← or_refused (entries_of bytes)
+  chain ← or_refused (run first entries)
+  Ok (sums_text (sums_of chain) (tip chain))
+
+-- the text that is printed, or why there is none. The configuration is read and judged before the feed.
+unfoldable pub outcome : List ℕ → List ℕ → Result (List ℕ) Stop
+outcome config feed = do
+  chain ← begin config
+  finish chain feed

@@ -1,0 +1,178 @@
+//! The commands that read a configuration and an input, and print a text.
+ghost use Rattle.std.specs.Prelude.{◌↔◌, true, false, ◌≡◌, ◌≢◌, ◌≤◌, ◌<◌, ◌^◌, ◌⊎◌, Err, IfSome, string_bytes};
+ghost use Rattle.std.specs.Io.KnownBytes.{Keeps, Appends};
+ghost use Rattle.sia_edge.specs.Edge.{Rose};
+ghost use Rattle.sia_program.specs.Steps.{Finds};
+ghost use Rattle.sia_program.specs.Texts.{usage_line};
+ghost use Rattle.sia_program.specs.Outcome.{within, begin, finish, outcome};
+ghost use Rattle.sia_program.specs.Answer.{has_form as has_form_of, status_of, IfTold, Ended, IsQuiet, Tells, TellsReason, Answered};
+
+use crate::config::read_config;
+use crate::feed::read_feed;
+use crate::run::{begin_ledger, run_entries};
+use crate::stop::Stop;
+use crate::texts::{refused_line, sums_text};
+use sia_edge::{Ending, Sink, Source, read_to_bound, write_all};
+use sia_encoding::Blob;
+use sia_ledger::Ledger;
+use std::alloc::Global;
+
+/// The most bytes that a configuration may have.
+const CONFIG_BOUND: u64 = 65_536;
+
+/// The most bytes that an input may have.
+const INPUT_BOUND: u64 = 1_073_741_824;
+
+/// All that a source has left, if it is within a bound.
+#[tactic(auto, unfolding(crate::specs::Outcome::within))]
+fn read_within<S: Source>(alloc: Global, source: &mut S, bound: u64) -> Result<Blob, Stop>
+    requires { bound < 2 ^ 60 }
+    ensures told { IfSome (S.left source.old) (λ left. Finds (λ bytes. bytes) result (within bound left)) }
+    ensures later { S.faults source.old ≤ S.faults source.new }
+    ensures failed { result ≡ Err Stop.Outside → Rose (S.faults source.old) (S.faults source.new) }
+{
+    let mut bytes = Blob::new(alloc);
+    match read_to_bound(source, &mut bytes, bound) {
+        Ending::Whole => Ok(bytes),
+        Ending::Long => Err(Stop::Long),
+        Ending::Failed => Err(Stop::Outside),
+        Ending::Memory => Err(Stop::Memory),
+    }
+}
+
+/// The ledger that a configuration begins.
+#[tactic(auto, unfolding(crate::specs::Outcome::begin))]
+fn begin_from<S: Source>(alloc: Global, config: &mut S) -> Result<Ledger, Stop>
+    ensures told { IfSome (S.left config.old) (λ left. Finds (λ ledger. ledger) result (begin left)) }
+    ensures later { S.faults config.old ≤ S.faults config.new }
+    ensures failed { result ≡ Err Stop.Outside → Rose (S.faults config.old) (S.faults config.new) }
+{
+    let bytes = read_within(alloc, config, CONFIG_BOUND)?;
+    let params = read_config(alloc, bytes.as_slice())?;
+    let ledger = begin_ledger(alloc, params)?;
+    Ok(ledger)
+}
+
+/// The text of what a feed makes of a ledger.
+#[tactic(auto, unfolding(crate::specs::Outcome::finish))]
+fn finish_with<S: Source>(alloc: Global, mut ledger: Ledger, input: &mut S) -> Result<String, Stop>
+    ensures told { IfSome (S.left input.old) (λ left. Finds string_bytes result (finish ledger left)) }
+    ensures later { S.faults input.old ≤ S.faults input.new }
+    ensures failed { result ≡ Err Stop.Outside → Rose (S.faults input.old) (S.faults input.new) }
+{
+    let bytes = read_within(alloc, input, INPUT_BOUND)?;
+    let entries = read_feed(alloc, bytes.as_slice())?;
+    run_entries(alloc, &mut ledger, entries.as_slice())?;
+    let text = sums_text(alloc, &ledger.sums(), &ledger.tip())?;
+    Ok(text)
+}
+
+/// `ledger` over the bytes of its configuration and of its feed: prints the sums of the chain.
+#[tactic(auto, unfolding(crate::specs::Outcome::outcome))]
+fn run_ledger<S: Source, K: Sink>(
+    alloc: Global,
+    config: &mut S,
+    input: &mut S,
+    out: &mut K,
+) -> Result<(), Stop>
+    ensures told { IfTold (S.left config.old) (S.left input.old) (λ c f. Ended result (outcome c f) (K.taken out.old) (K.taken out.new)) }
+    ensures quiet { IsQuiet result (K.taken out.old) (K.taken out.new) }
+    ensures failed { result ≡ Err Stop.Outside → Rose (S.faults config.old) (S.faults config.new) ⊎ (Rose (S.faults input.old) (S.faults input.new) ⊎ Rose (K.faults out.old) (K.faults out.new)) }
+    ensures config_later { S.faults config.old ≤ S.faults config.new }
+    ensures input_later { S.faults input.old ≤ S.faults input.new }
+    ensures out_later { K.faults out.old ≤ K.faults out.new }
+{
+    let ledger = begin_from(alloc, config)?;
+    let text = finish_with(alloc, ledger, input)?;
+    match write_all(out, text.as_str().as_bytes()) {
+        Ok(()) => Ok(()),
+        Err(_) => Err(Stop::Outside),
+    }
+}
+
+fn has_form(words: &[Blob]) -> bool
+    ensures { result ≡ has_form_of words.now }
+{
+    match words {
+        [command, _, _] => command.as_slice() == b"ledger".as_slice(),
+        _ => false,
+    }
+}
+
+/// Writes a line. Where the write fails, a front part of it is written, and nobody is told.
+fn write_line<K: Sink>(err: &mut K, line: &[u8])
+    ensures { Tells line.now (K.taken err.old) (K.taken err.new) (Rose (K.faults err.old) (K.faults err.new)) }
+{
+    let _ = write_all(err, line);
+}
+
+/// Writes why a command stopped, and answers its status.
+#[tactic(auto, unfolding(crate::specs::Texts::stop_line))]
+fn tell<K: Sink>(alloc: Global, stop: Stop, err: &mut K) -> u8
+    ensures { TellsReason stop result (K.taken err.old) (K.taken err.new) (Rose (K.faults err.old) (K.faults err.new)) }
+{
+    match stop {
+        Stop::Refused(refusal) => match refused_line(alloc, &refusal) {
+            Ok(line) => {
+                write_line(err, line.as_str().as_bytes());
+                2
+            }
+            Err(_) => {
+                write_line(err, "sia-v1: no memory\n".as_bytes());
+                5
+            }
+        },
+        Stop::Outside => {
+            write_line(err, "sia-v1: outside fault\n".as_bytes());
+            3
+        }
+        Stop::Memory => {
+            write_line(err, "sia-v1: no memory\n".as_bytes());
+            5
+        }
+        Stop::Long => {
+            write_line(err, "sia-v1: input too long\n".as_bytes());
+            8
+        }
+    }
+}
+
+/// Runs the command that the words name, and answers its status.
+///
+/// The one form is `ledger CONFIG FEED`: `config` gives the bytes of CONFIG, at most 65,536, and `input` those of FEED, at
+/// most 2^30. It applies the feed to the chain that the configuration begins, and writes the sums to `out`. Nothing is
+/// written to `out` before the whole input was accepted.
+///
+/// | Status | Exactly where | Line on `err` |
+/// |---|---|---|
+/// | 0 | the text was written | none |
+/// | 1 | the words have no form | `sia-v1: usage` |
+/// | 2 | the configuration or the input is refused | `sia-v1: refused` and the case |
+/// | 3 | a read, or a write to `out`, failed | `sia-v1: outside fault` |
+/// | 5 | memory ran out | `sia-v1: no memory` |
+/// | 8 | the configuration or the input is longer than its bound | `sia-v1: input too long` |
+///
+/// A write to `err` that fails changes no status.
+pub fn run_plain<S: Source, K: Sink>(
+    alloc: Global,
+    words: &[Blob],
+    config: &mut S,
+    input: &mut S,
+    out: &mut K,
+    err: &mut K,
+) -> u8
+    ensures usage { (result ≡ 1) ↔ (has_form_of words.now ≡ false) }
+    ensures unnamed { has_form_of words.now ≡ false → Keeps (K.taken out.old) (K.taken out.new) × Tells usage_line (K.taken err.old) (K.taken err.new) (Rose (K.faults err.old) (K.faults err.new)) }
+    ensures answered { has_form_of words.now ≡ true → Answered result (S.left config.old) (S.left input.old) (K.taken out.old) (K.taken out.new) (K.taken err.old) (K.taken err.new) (Rose (K.faults err.old) (K.faults err.new)) }
+    ensures outside { result ≡ 3 → Rose (S.faults config.old) (S.faults config.new) ⊎ (Rose (S.faults input.old) (S.faults input.new) ⊎ Rose (K.faults out.old) (K.faults out.new)) }
+    ensures complete { has_form_of words.now ≡ true → ¬ (Rose (S.faults config.old) (S.faults config.new) ⊎ (Rose (S.faults input.old) (S.faults input.new) ⊎ Rose (K.faults out.old) (K.faults out.new))) → IfTold (S.left config.old) (S.left input.old) (λ c f. (result ≡ 5) ⊎ (result ≡ status_of (outcome c f))) }
+{
+    if !has_form(words) {
+        write_line(err, "sia-v1: usage\n".as_bytes());
+        return 1;
+    }
+    match run_ledger(alloc, config, input, out) {
+        Ok(()) => 0,
+        Err(stop) => tell(alloc, stop, err),
+    }
+}
