@@ -1,0 +1,6 @@
+//! Tests that cross crates: what comes in against what goes out, a table for each theme. Each case has its expected
+//! values from outside of this repository's code.
+#![tactic(auto)]
+
+#[cfg(test)]
+mod ledger;
