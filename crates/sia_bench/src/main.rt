@@ -1,0 +1,26 @@
+//! One kernel of the product, run many times: what the scripts in bench/ measure.
+//!
+//! `sia_bench digest FILE N` reads FILE whole, hashes it N times and prints the last digest in hexadecimal.
+//! Wrong words give status 1, and a file that can't be read status 2.
+#![tactic(auto)]
+
+mod kernel;
+mod run;
+
+use kernel::{USAGE, kernel_of};
+use run::run;
+use std::process::ExitCode;
+use std::{env, io};
+
+fn main(rt: HostRuntime) -> io::Result<ExitCode> {
+    let words: Vec<String> = env::args(&rt)?.skip(1).collect(rt.alloc())?;
+    let Some(kernel) = kernel_of(words.as_slice()) else {
+        eprintln!(&rt; "{USAGE}")?;
+        return Ok(ExitCode::from(1));
+    };
+    if let Err(error) = run(&rt, kernel) {
+        eprintln!(&rt; "sia_bench: {error}")?;
+        return Ok(ExitCode::from(2));
+    }
+    Ok(ExitCode::SUCCESS)
+}

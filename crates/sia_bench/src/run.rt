@@ -1,0 +1,35 @@
+//! The kernels.
+
+ghost use Rattle.std.specs.Prelude.{◌≡◌};
+ghost use Rattle.sia_blake.specs.Blake2b.{blake2b_256};
+
+use crate::kernel::Kernel;
+use sia_blake::{Hash, digest};
+use std::rt::Files;
+use std::{fs, io};
+
+/// The last of as many digests of the bytes, of which there is at least one.
+fn digest_again(bytes: &[u8], times: u64) -> Hash
+    ensures { result ≡ blake2b_256 bytes.now }
+{
+    let first = digest(bytes);
+    let mut last = first;
+    'again: for _ in 1..times {
+        let next = digest(bytes);
+        last = next;
+    }
+    last
+}
+
+pub(crate) fn run(rt: &(impl Files + Print + Alloc), kernel: Kernel<'_>) -> io::Result<()> {
+    match kernel {
+        Kernel::Digest { file, times } => {
+            let bytes = fs::read(rt, file)?;
+            let hash = digest_again(bytes.as_slice(), times);
+            for byte in hash {
+                print!(rt; "{byte:02x}")?;
+            }
+            println!(rt; "")
+        }
+    }
+}
