@@ -1,6 +1,11 @@
 //! What no clause says: that the clauses mean the trees of the world outside, and that calls that take memory succeed.
+ghost use Rattle.std.specs.Prelude.{◌≡◌};
+
 use super::*;
 use sia_blake::Hash;
+use sia_encoding::Steps;
+use std::marker::Brand;
+use std::sync::ledger::{Blank, Ledger};
 use std::test::Fail;
 
 /// The byte at place i of the message is i modulo 251.
@@ -155,4 +160,20 @@ fn subtrees_of_a_plain_tree_have_their_roots(rt: HostRuntime) {
     assert!(rt; pair == node_root(&hashes[2..4]));
     assert!(rt; nodes.node(2, 0) == node_root(&[left, pair]));
     assert!(rt; node_root(&hashes) == node_root(&[nodes.node(2, 0), hashes[4]]));
+}
+
+fn counted_node<L: Ledger>(left: &Hash, right: &Hash, blank: Blank) -> Hash
+    requires name { blank.name ≡ L.name }
+    requires parts { blank.parts ≡ L.parts }
+    requires one { L.parts ≡ 1 }
+{
+    let mut steps = Steps::<L>::new(blank);
+    node_hash(left, right, &mut steps)
+}
+
+#[test]
+fn a_node_is_the_root_over_its_two_parts(rt: HostRuntime) {
+    let left = leaf_hash(b"left");
+    let right = leaf_hash(b"right");
+    assert!(rt; counted_node::<Brand>(&left, &right, Blank::new(1)) == node_root(&[left, right]));
 }
