@@ -75,9 +75,13 @@ fn run_ledger<S: Source, K: Sink>(
     input: &mut S,
     out: &mut K,
 ) -> Result<(), Stop>
-    ensures told { IfTold (S.left config.old) (S.left input.old) (λ c f. Ended result (outcome c f) (K.taken out.old) (K.taken out.new)) }
+    ensures told { IfTold (S.left config.old) (S.left input.old)
+        (λ c f. Ended result (outcome c f) (K.taken out.old) (K.taken out.new)) }
     ensures quiet { IsQuiet result (K.taken out.old) (K.taken out.new) }
-    ensures failed { result ≡ Err Stop.Outside → Rose (S.faults config.old) (S.faults config.new) ⊎ (Rose (S.faults input.old) (S.faults input.new) ⊎ Rose (K.faults out.old) (K.faults out.new)) }
+    ensures failed { result ≡ Err Stop.Outside →
+        Rose (S.faults config.old) (S.faults config.new)
+        ⊎ (Rose (S.faults input.old) (S.faults input.new)
+        ⊎ Rose (K.faults out.old) (K.faults out.new)) }
     ensures config_later { S.faults config.old ≤ S.faults config.new }
     ensures input_later { S.faults input.old ≤ S.faults input.new }
     ensures out_later { K.faults out.old ≤ K.faults out.new }
@@ -109,7 +113,8 @@ fn write_line<K: Sink>(err: &mut K, line: &[u8])
 /// Writes why a command stopped, and answers its status.
 #[tactic(auto, unfolding(crate::specs::Texts::stop_line))]
 fn tell<K: Sink>(alloc: Global, stop: Stop, err: &mut K) -> u8
-    ensures { TellsReason stop result (K.taken err.old) (K.taken err.new) (Rose (K.faults err.old) (K.faults err.new)) }
+    ensures { TellsReason stop result (K.taken err.old) (K.taken err.new)
+        (Rose (K.faults err.old) (K.faults err.new)) }
 {
     match stop {
         Stop::Refused(refusal) => match refused_line(alloc, &refusal) {
@@ -161,11 +166,31 @@ pub fn run_plain<S: Source, K: Sink>(
     out: &mut K,
     err: &mut K,
 ) -> u8
+    // Status 1 is exactly that of words without a form. Then nothing is read, and nothing written but the usage.
     ensures usage { (result ≡ 1) ↔ (has_form_of words.now ≡ false) }
-    ensures unnamed { has_form_of words.now ≡ false → Keeps (K.taken out.old) (K.taken out.new) × Tells usage_line (K.taken err.old) (K.taken err.new) (Rose (K.faults err.old) (K.faults err.new)) }
-    ensures answered { has_form_of words.now ≡ true → Answered result (S.left config.old) (S.left input.old) (K.taken out.old) (K.taken out.new) (K.taken err.old) (K.taken err.new) (Rose (K.faults err.old) (K.faults err.new)) }
-    ensures outside { result ≡ 3 → Rose (S.faults config.old) (S.faults config.new) ⊎ (Rose (S.faults input.old) (S.faults input.new) ⊎ Rose (K.faults out.old) (K.faults out.new)) }
-    ensures complete { has_form_of words.now ≡ true → ¬ (Rose (S.faults config.old) (S.faults config.new) ⊎ (Rose (S.faults input.old) (S.faults input.new) ⊎ Rose (K.faults out.old) (K.faults out.new))) → IfTold (S.left config.old) (S.left input.old) (λ c f. (result ≡ 5) ⊎ (result ≡ status_of (outcome c f))) }
+    ensures unnamed { has_form_of words.now ≡ false →
+        Keeps (K.taken out.old) (K.taken out.new) ×
+        Tells usage_line (K.taken err.old) (K.taken err.new) (Rose (K.faults err.old) (K.faults err.new)) }
+
+    // What the status says of the bytes that were read, and what `out` and `err` took.
+    ensures answered { has_form_of words.now ≡ true →
+        Answered result (S.left config.old) (S.left input.old)
+        (K.taken out.old) (K.taken out.new)
+        (K.taken err.old) (K.taken err.new) (Rose (K.faults err.old) (K.faults err.new)) }
+
+    // Status 3 has its cause in the outside.
+    ensures outside { result ≡ 3 →
+        Rose (S.faults config.old) (S.faults config.new)
+        ⊎ (Rose (S.faults input.old) (S.faults input.new)
+        ⊎ Rose (K.faults out.old) (K.faults out.new)) }
+
+    // Where nothing in the outside failed, the status is that of what the bytes give, or want of memory.
+    ensures complete { has_form_of words.now ≡ true →
+        ¬ (Rose (S.faults config.old) (S.faults config.new)
+        ⊎ (Rose (S.faults input.old) (S.faults input.new)
+        ⊎ Rose (K.faults out.old) (K.faults out.new))) →
+        IfTold (S.left config.old) (S.left input.old)
+        (λ c f. (result ≡ 5) ⊎ (result ≡ status_of (outcome c f))) }
 {
     if !has_form(words) {
         write_line(err, "sia-v1: usage\n".as_bytes());
