@@ -1,26 +1,35 @@
 //! The words of the command line.
 
+use crate::turns::Crew;
+
 /// What the program prints where the words are wrong.
-pub(crate) const USAGE: &str = "usage: sia_bench digest FILE N (N at least 1)";
+pub(crate) const USAGE: &str =
+    "usage: sia_bench digest FILE N | sia_bench turn THREADS N (N at least 1, THREADS 1 to 64)";
 
 /// What to run.
 #[derive(Clone, Copy)]
 pub(crate) enum Kernel<'a> {
     /// Hash the file as many times.
     Digest { file: &'a str, times: u64 },
+    /// Let each of the threads take as many turns, and then as many locks.
+    Turn { crew: Crew, times: u64 },
 }
 
 /// The kernel that the words name.
 pub(crate) fn kernel_of(words: &[String]) -> Option<Kernel<'_>> {
-    let [name, file, times] = words else {
+    let [name, on, times] = words else {
         return None;
     };
     let times: u64 = times.as_str().parse().ok()?;
     match name.as_str() {
         "digest" if times > 0 => Some(Kernel::Digest {
-            file: file.as_str(),
+            file: on.as_str(),
             times,
         }),
+        "turn" if times > 0 => {
+            let crew = Crew::of(on.as_str().parse().ok()?)?;
+            Some(Kernel::Turn { crew, times })
+        }
         _ => None,
     }
 }

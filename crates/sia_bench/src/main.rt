@@ -1,11 +1,14 @@
 //! One kernel of the product, run many times: what the scripts in bench/ measure.
 //!
 //! `sia_bench digest FILE N` reads FILE whole, hashes it N times and prints the last digest in hexadecimal.
+//! `sia_bench turn THREADS N` lets so many threads take N turns each over one counter, and then N locks of std's
+//! `Mutex`, and prints how many nanoseconds each of the two took.
 //! Wrong words give status 1, and a file that can't be read status 2.
 #![tactic(auto)]
 
 mod kernel;
 mod run;
+mod turns;
 
 use kernel::{USAGE, kernel_of};
 use run::run;

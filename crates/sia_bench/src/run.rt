@@ -4,8 +4,11 @@ ghost use Rattle.std.specs.Prelude.{◌≡◌};
 ghost use Rattle.sia_blake.specs.Blake2b.{blake2b_256};
 
 use crate::kernel::Kernel;
+use crate::turns::{lock_nanos, turn_nanos};
 use sia_blake::{Hash, digest};
-use std::rt::Files;
+use std::rt::{Clock, Files};
+use std::sync::Wait;
+use std::thread::Threads;
 use std::{fs, io};
 
 /// The last of as many digests of the bytes, of which there is at least one.
@@ -21,7 +24,10 @@ fn digest_again(bytes: &[u8], times: u64) -> Hash
     last
 }
 
-pub(crate) fn run(rt: &(impl Files + Print + Alloc), kernel: Kernel<'_>) -> io::Result<()> {
+pub(crate) fn run<R: Files + Print + AllocGlobal + Clock + Threads + Wait + Sync>(
+    rt: &R,
+    kernel: Kernel<'_>,
+) -> io::Result<()> {
     match kernel {
         Kernel::Digest { file, times } => {
             let bytes = fs::read(rt, file)?;
@@ -30,6 +36,12 @@ pub(crate) fn run(rt: &(impl Files + Print + Alloc), kernel: Kernel<'_>) -> io::
                 print!(rt; "{byte:02x}")?;
             }
             println!(rt; "")
+        }
+        Kernel::Turn { crew, times } => {
+            let turns = turn_nanos(rt, rt.alloc(), crew, times)?;
+            let locks = lock_nanos(rt, rt.alloc(), crew, times)?;
+            println!(rt; "turn {turns}")?;
+            println!(rt; "mutex {locks}")
         }
     }
 }
