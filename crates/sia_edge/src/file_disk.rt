@@ -1,5 +1,5 @@
 //! A file of the system as a disk. No contract says which bytes it holds.
-ghost use Rattle.std.specs.Prelude.{◌≡◌, ◌+◌, ◌-◌, ◌^◌, ◌<◌, ◌≤◌, ℕ, false, IsNone, IsTrue, length};
+ghost use Rattle.std.specs.Prelude.{◌≡◌, ◌+◌, ◌-◌, ◌^◌, ◌<◌, ◌≤◌, ℕ, false, Some, IfOk, IsNone, IsTrue, length};
 ghost use Rattle.sia_edge.specs.Edge.{GotWithin, PutWithin, GotCause};
 ghost use Rattle.sia_edge.specs.Disk.{GivesWithin, Gives, NoneMore, Passes, Lengthens, Overwrites, Follows, Torn, Cuts, Shortened, Settles, DidCause};
 ghost use Rattle.sia_edge.specs.FileDisk.{untold, no_image};
@@ -68,7 +68,10 @@ pub struct FileDisk {
 
 impl FileDisk {
     /// The file, whose length is asked of the system.
-    pub fn new(file: File) -> io::Result<FileDisk> {
+    pub fn new(file: File) -> io::Result<FileDisk>
+        ensures file { IfOk result (λ disk. disk.file ≡ Some file) }
+        ensures faults { IfOk result (λ disk. disk.faults ≡ 0) }
+    {
         let end = file.metadata()?.len();
         Ok(FileDisk {
             file: Some(file),
@@ -92,7 +95,9 @@ impl FileDisk {
 
     /// Opens the file of this name, and makes it where it is missing. It is empty where it can't be opened. A name that isn't
     /// UTF-8 can't.
-    pub fn open<R: Files<File = File>>(rt: &R, name: &[u8]) -> FileDisk {
+    pub fn open<R: Files<File = File>>(rt: &R, name: &[u8]) -> FileDisk
+        ensures { result.faults ≡ 0 }
+    {
         let Ok(path) = str::from_utf8(name) else {
             return FileDisk::empty();
         };

@@ -1,5 +1,5 @@
 //! Files and standard streams as sources and sinks. No contract says which bytes they give or take.
-ghost use Rattle.std.specs.Prelude.{◌≡◌, ◌≤◌, None, IsNone, length};
+ghost use Rattle.std.specs.Prelude.{◌≡◌, ◌≤◌, None, Some, IsNone, length};
 ghost use Rattle.sia_edge.specs.Edge.{GotWithin, Reads, GotCause, PutWithin, Writes, PutCause};
 
 use crate::{Got, Put, Sink, Source};
@@ -51,7 +51,8 @@ pub struct FileSource {
 impl FileSource {
     /// Reads this file from where it stands.
     pub fn new(file: File) -> FileSource
-        ensures { result.faults ≡ 0 }
+        ensures file { result.file ≡ Some file }
+        ensures faults { result.faults ≡ 0 }
     {
         FileSource {
             file: Some(file),
@@ -116,7 +117,8 @@ pub struct FileSink {
 impl FileSink {
     /// Writes to this file from where it stands.
     pub fn new(file: File) -> FileSink
-        ensures { result.faults ≡ 0 }
+        ensures file { result.file ≡ Some file }
+        ensures faults { result.faults ≡ 0 }
     {
         FileSink {
             file: Some(file),
