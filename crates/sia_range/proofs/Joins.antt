@@ -1,0 +1,226 @@
+-- Laws of the join of a set of places with the cover of the others.
+use Rattle.std.proofs.Common.{◌≡◌, ℕ, zero, suc, ◌+◌, ◌-◌, ◌*◌, ◌^◌, ◌<◌, ◌≤◌, true, false, List, [], ◌∷◌, ◌++◌, length, map, take, drop, get_or, refl, sym, ◌∙◌, ap, arith, min, suc-add, zero-add}
+use native.Mathlib.Nat.{pow-suc}
+use Rattle.std.specs.Prelude.{Bool, nat_le, nat_lt, count_by, cond}
+use Rattle.std.specs.List.{range_with_len}
+use Rattle.std.proofs.lemmas.List.Sums.{sum_by-append}
+use Rattle.std.proofs.lemmas.Bool.{le-leb, lt-leb, leb-true, leb-false, ltb-true, ltb-false, not-true}
+use Rattle.std.proofs.lemmas.List.{take-take, drop-take, drop-drop, drop-map, drop_min}
+use Rattle.sia_merkle.specs.Computations.{Tree, hash_of}
+use Rattle.sia_merkle.specs.Computations.Tree.{Given, Node}
+use Rattle.sia_merkle.specs.Roots.{first_hash, node_digest, node_root_of, tree_root}
+use Rattle.sia_merkle.specs.Segments.{cover_within, is_covered, others, places_between, places_within, first_tree, joined_within, segment_root}
+use Rattle.sia_merkle.proofs.Trees.{lt_pow, pow_up}
+use Rattle.sia_range.proofs.Covers.{covered_at, past_covered}
+
+-- the join, case by case
+pub join_given : (chosen : ℕ → Bool) (count height low : ℕ) (inner : List Tree) (outer : List (List ℕ)) → is_covered (others chosen) count height low ≡ true
+    → joined_within chosen count height low inner outer ≡ Given (first_hash outer)
+unfolding joined_within
+join_given chosen count zero low inner outer e =
+    let out : chosen low ≡ false = not-true (chosen low) (covered_at (others chosen) count 0 low low e (omega arith) (omega arith)) in
+    rw out refl
+join_given chosen count (suc height) low inner outer e = rw e refl
+
+pub join_chosen : (chosen : ℕ → Bool) (count low : ℕ) (inner : List Tree) (outer : List (List ℕ)) → chosen low ≡ true → joined_within chosen count 0 low inner outer ≡ first_tree inner
+unfolding joined_within
+join_chosen chosen count low inner outer e = rw e refl
+
+pub join_low : (chosen : ℕ → Bool) (count height low : ℕ) (inner : List Tree) (outer : List (List ℕ)) → is_covered (others chosen) count (suc height) low ≡ false → count ≤ low + 2 ^ height
+    → joined_within chosen count (suc height) low inner outer ≡ joined_within chosen count height low inner outer
+unfolding joined_within
+join_low chosen count height low inner outer e fits = rw (e, le-leb _ _ fits) refl
+
+pub join_node : (chosen : ℕ → Bool) (count height low : ℕ) (inner : List Tree) (outer : List (List ℕ)) → is_covered (others chosen) count (suc height) low ≡ false → low + 2 ^ height < count
+    → joined_within chosen count (suc height) low inner outer ≡ Node
+    (joined_within chosen count height low (take (places_within chosen count height low) inner) (take (length (cover_within (others chosen) count height low)) outer))
+    (joined_within chosen count height (low + 2 ^ height) (drop (places_within chosen count height low) inner) (drop (length (cover_within (others chosen) count height low)) outer))
+unfolding joined_within
+join_node chosen count height low inner outer e above = rw (e, lt-leb _ _ above) refl
+
+range_parts : (low first second : ℕ) → range_with_len low (first + second) ≡ range_with_len low first ++ range_with_len (low + first) second
+range_parts low zero second =
+    let same : low ≡ low + 0 = omega arith in
+    rw zero-add (ap (λ n. range_with_len n second) same)
+range_parts low (suc first) second =
+    let up : low + 1 + first ≡ low + suc first = omega arith in
+    rw suc-add (ap (λ xs. low ∷ xs) (range_parts (low + 1) first second ∙ ap (λ n. range_with_len (low + 1) first ++ range_with_len n second) up))
+
+-- counting in two rows
+pub count_rows : (chosen : ℕ → Bool) (low first second : ℕ) → count_by chosen (range_with_len low (first + second)) ≡ count_by chosen (range_with_len low first) + count_by chosen (range_with_len (low + first) second)
+count_rows chosen low first second =
+    ap (count_by chosen) (range_parts low first second) ∙ sum_by-append (λ x. cond (chosen x) 1 0) (range_with_len low first) (range_with_len (low + first) second)
+
+count_cons : (chosen : ℕ → Bool) (place : ℕ) (places : List ℕ) → count_by chosen (place ∷ places) ≡ cond (chosen place) 1 0 + count_by chosen places
+count_cons chosen place places =
+    let one : 0 + cond (chosen place) 1 0 ≡ cond (chosen place) 1 0 = omega arith in
+    sum_by-append (λ x. cond (chosen x) 1 0) (place ∷ []) places ∙ ap (λ n. n + count_by chosen places) one
+
+between_by : (a b low width : ℕ) → count_by (places_between a b) (range_with_len (low + 1) width) ≡ (min (low + 1 + width) b - (low + 1)) - (a - (low + 1))
+    → (from before : Bool) → nat_le a low ≡ from → nat_lt low b ≡ before
+    → count_by (places_between a b) (range_with_len low (suc width)) ≡ (min (low + suc width) b - low) - (a - low)
+between_by a b low width rest true true e f = let from : a ≤ low = leb-true _ _ e in let to : low < b = ltb-true _ _ f in count_cons (places_between a b) low (range_with_len (low + 1) width) ∙ rw (e, f) (omega arith)
+between_by a b low width rest true false e f = let from : a ≤ low = leb-true _ _ e in let to : b ≤ low = ltb-false _ _ f in count_cons (places_between a b) low (range_with_len (low + 1) width) ∙ rw (e, f) (omega arith)
+between_by a b low width rest false before e f = let from : low < a = leb-false _ _ e in count_cons (places_between a b) low (range_with_len (low + 1) width) ∙ rw e (omega arith)
+
+-- the places of a range among a row
+pub count_between : (a b low width : ℕ) → count_by (places_between a b) (range_with_len low width) ≡ (min (low + width) b - low) - (a - low)
+count_between a b low zero = omega arith
+count_between a b low (suc width) = between_by a b low width (count_between a b (low + 1) width) (nat_le a low) (nat_lt low b) refl refl
+
+pub drop_same : {X : Type 0} (first second : ℕ) (xs : List X) → min first (length xs) ≡ min second (length xs) → drop first xs ≡ drop second xs
+drop_same first second xs e = sym (drop_min first xs) ∙ ap (λ n. drop n xs) e ∙ drop_min second xs
+
+-- what stands at the places of a range behind a segment
+pub inner_behind : (a b count height low : ℕ) (inner : List Tree) → length inner ≡ b - a → a < b → low + 2 ^ height < count
+    → drop (places_within (places_between a b) count height low) (drop (low - a) inner) ≡ drop (low + 2 ^ height - a) inner
+inner_behind a b count height low inner fits some above =
+    let whole : min (2 ^ height) (count - low) ≡ 2 ^ height = omega arith in
+    let places : places_within (places_between a b) count height low ≡ (min (low + 2 ^ height) b - low) - (a - low) =
+    ap (λ n. count_by (places_between a b) (range_with_len low n)) whole ∙ count_between a b low (2 ^ height) in
+    ap (λ n. drop n (drop (low - a) inner)) places ∙ drop-drop ((min (low + 2 ^ height) b - low) - (a - low)) (low - a) inner
+    ∙ drop_same ((low - a) + ((min (low + 2 ^ height) b - low) - (a - low))) (low + 2 ^ height - a) inner (omega arith)
+
+-- only the trees at a segment's own places show in its join
+places_one : (chosen : ℕ → Bool) (count low : ℕ) → low < count → chosen low ≡ true → places_within chosen count 0 low ≡ 1
+places_one chosen count low within e =
+    let one : min (2 ^ 0) (count - low) ≡ 1 = omega arith in
+    ap (λ n. count_by chosen (range_with_len low n)) one ∙ rw e refl
+
+places_low : (chosen : ℕ → Bool) (count height low : ℕ) → count ≤ low + 2 ^ height → places_within chosen count height low ≡ places_within chosen count (suc height) low
+places_low chosen count height low fits =
+    let same : min (2 ^ height) (count - low) ≡ min (2 ^ suc height) (count - low) = omega (arith, pow-suc 2 height) in
+    ap (λ n. count_by chosen (range_with_len low n)) same
+
+pub places_parts : (chosen : ℕ → Bool) (count height low : ℕ) → low + 2 ^ height < count
+    → places_within chosen count (suc height) low ≡ places_within chosen count height low + places_within chosen count height (low + 2 ^ height)
+places_parts chosen count height low above =
+    let whole : min (2 ^ height) (count - low) ≡ 2 ^ height = omega arith in
+    let up : 2 ^ suc height ≡ 2 ^ height * 2 = pow-suc 2 height in
+    let both : min (2 ^ suc height) (count - low) ≡ 2 ^ height + min (2 ^ height) (count - (low + 2 ^ height)) = omega arith in
+    ap (λ n. count_by chosen (range_with_len low n)) both ∙ count_rows chosen low (2 ^ height) (min (2 ^ height) (count - (low + 2 ^ height)))
+    ∙ ap (λ n. count_by chosen (range_with_len low n) + places_within chosen count height (low + 2 ^ height)) (sym whole)
+
+first_taken : (count : ℕ) (inner : List Tree) → 0 < count → first_tree (take count inner) ≡ first_tree inner
+first_taken zero inner some = absurd (omega arith)
+first_taken (suc count) [] some = refl
+first_taken (suc count) (tree ∷ inner) some = refl
+
+pub drop_taken : {X : Type 0} (first count : ℕ) (xs : List X) → first ≤ count → drop first (take count xs) ≡ take (count - first) (drop first xs)
+drop_taken first count xs fits =
+    let split : count ≡ first + (count - first) = omega arith in
+    ap (λ n. drop first (take n xs)) split ∙ drop-take first (count - first) xs
+
+join_front_end : (chosen : ℕ → Bool) (count low taken : ℕ) (inner : List Tree) (outer : List (List ℕ)) → low < count → places_within chosen count 0 low ≤ taken
+    → (here : Bool) → chosen low ≡ here → joined_within chosen count 0 low (take taken inner) outer ≡ joined_within chosen count 0 low inner outer
+unfolding joined_within
+join_front_end chosen count low taken inner outer within fits true e = rw e (first_taken taken inner (omega (arith, places_one chosen count low within e)))
+join_front_end chosen count low taken inner outer within fits false e = rw e refl
+
+join_front_by : (chosen : ℕ → Bool) (count height low taken : ℕ) (inner : List Tree) (outer : List (List ℕ)) → low < count → places_within chosen count (suc height) low ≤ taken
+    → ((at first : ℕ) (trees : List Tree) (hashes : List (List ℕ)) → at < count → places_within chosen count height at ≤ first
+    → joined_within chosen count height at (take first trees) hashes ≡ joined_within chosen count height at trees hashes)
+    → (covered : Bool) → is_covered (others chosen) count (suc height) low ≡ covered → (short : Bool) → nat_le count (low + 2 ^ height) ≡ short
+    → joined_within chosen count (suc height) low (take taken inner) outer ≡ joined_within chosen count (suc height) low inner outer
+join_front_by chosen count height low taken inner outer within fits below true e short f =
+    join_given chosen count (suc height) low (take taken inner) outer e ∙ sym (join_given chosen count (suc height) low inner outer e)
+join_front_by chosen count height low taken inner outer within fits below false e true f =
+    let past : count ≤ low + 2 ^ height = leb-true _ _ f in
+    join_low chosen count height low (take taken inner) outer e past ∙ below low taken inner outer within (omega (arith, places_low chosen count height low past)) ∙ sym (join_low chosen count height low inner outer e past)
+join_front_by chosen count height low taken inner outer within fits below false e false f =
+    let above : low + 2 ^ height < count = leb-false _ _ f in
+    let parts = places_parts chosen count height low above in
+    let lefts = length (cover_within (others chosen) count height low) in
+    let first = places_within chosen count height low in
+    let enough : first ≤ taken = omega arith in
+    join_node chosen count height low (take taken inner) outer e above
+    ∙ ap (λ xs. Node (joined_within chosen count height low xs (take lefts outer)) (joined_within chosen count height (low + 2 ^ height) (drop first (take taken inner)) (drop lefts outer))) (take-take first taken inner enough)
+    ∙ ap (λ xs. Node (joined_within chosen count height low (take first inner) (take lefts outer)) (joined_within chosen count height (low + 2 ^ height) xs (drop lefts outer))) (drop_taken first taken inner enough)
+    ∙ ap (λ t. Node (joined_within chosen count height low (take first inner) (take lefts outer)) t) (below (low + 2 ^ height) (taken - first) (drop first inner) (drop lefts outer) above (omega arith))
+    ∙ sym (join_node chosen count height low inner outer e above)
+
+pub join_front : (chosen : ℕ → Bool) (count height low taken : ℕ) (inner : List Tree) (outer : List (List ℕ)) → low < count → places_within chosen count height low ≤ taken
+    → joined_within chosen count height low (take taken inner) outer ≡ joined_within chosen count height low inner outer
+join_front chosen count zero low taken inner outer within fits = join_front_end chosen count low taken inner outer within fits (chosen low) refl
+join_front chosen count (suc height) low taken inner outer within fits =
+    join_front_by chosen count height low taken inner outer within fits (λ at first trees hashes in_it enough. join_front chosen count height at first trees hashes in_it enough)
+    (is_covered (others chosen) count (suc height) low) refl (nat_le count (low + 2 ^ height)) refl
+
+-- any two heights that the places fit give one join
+join_add : (chosen : ℕ → Bool) (count more height : ℕ) (inner : List Tree) (outer : List (List ℕ)) → count ≤ 2 ^ height → 0 < count
+    → joined_within chosen count (more + height) 0 inner outer ≡ joined_within chosen count height 0 inner outer
+join_add chosen count zero height inner outer fits some = rw zero-add refl
+join_add chosen count (suc more) height inner outer fits some =
+    let low : count ≤ 0 + 2 ^ (more + height) = omega (arith, pow_up more height) in
+    let wide : count < 0 + 2 ^ suc (more + height) = omega (arith, pow-suc 2 (more + height)) in
+    rw suc-add (join_low chosen count (more + height) 0 inner outer (past_covered (others chosen) count (suc (more + height)) 0 wide) low ∙ join_add chosen count more height inner outer fits some)
+
+pub join_at : (chosen : ℕ → Bool) (count height : ℕ) (inner : List Tree) (outer : List (List ℕ)) → count ≤ 2 ^ height → 0 < count
+    → joined_within chosen count count 0 inner outer ≡ joined_within chosen count height 0 inner outer
+join_at chosen count height inner outer fits some =
+    let swapped : height + count ≡ count + height = omega arith in
+    sym (join_add chosen count height count inner outer (omega (arith, lt_pow count)) some) ∙ ap (λ h. joined_within chosen count h 0 inner outer) swapped ∙ join_add chosen count count height inner outer fits some
+
+-- the join in terms of a height given by another number
+pub join_lower : (chosen : ℕ → Bool) (count height lower low : ℕ) (inner : List Tree) (outer : List (List ℕ)) → height ≡ suc lower → is_covered (others chosen) count height low ≡ false → count ≤ low + 2 ^ lower
+    → joined_within chosen count height low inner outer ≡ joined_within chosen count lower low inner outer
+join_lower chosen count height lower low inner outer is e past =
+    ap (λ h. joined_within chosen count h low inner outer) is ∙ join_low chosen count lower low inner outer (ap (λ h. is_covered (others chosen) count h low) (sym is) ∙ e) past
+
+pub hash_of_node : (left right : Tree) → hash_of (Node left right) ≡ node_digest (hash_of left) (hash_of right)
+unfolding hash_of
+hash_of_node left right = refl
+
+pub root_of_two : (left right : List ℕ) → node_root_of (left ∷ right ∷ []) ≡ node_digest left right
+unfolding node_root_of tree_root
+root_of_two left right = refl
+
+pub hash_given : (hash : List ℕ) → hash_of (Given hash) ≡ hash
+unfolding hash_of
+hash_given hash = refl
+
+one_hash : (hashes : List (List ℕ)) → hash_of (first_tree (map Given hashes)) ≡ tree_root 0 (take 1 hashes)
+unfolding hash_of tree_root
+one_hash [] = refl
+one_hash (hash ∷ hashes) = refl
+
+-- what stands at a place
+pub one_root : (hashes : List (List ℕ)) (place : ℕ) → hash_of (first_tree (drop place (map Given hashes))) ≡ segment_root hashes 0 place
+one_root hashes place =
+    let same : place ≡ place * 2 ^ 0 = omega arith in
+    ap (λ xs. hash_of (first_tree xs)) (drop-map Given place hashes) ∙ one_hash (drop place hashes) ∙ ap (λ n. tree_root 0 (take 1 (drop n hashes))) same
+
+-- the join of a range, of its two parts
+pub join_both : (a b count height lower low : ℕ) (inner : List Tree) (outer lefts rights : List (List ℕ)) → height ≡ suc lower → a < b → length inner ≡ b - a
+    → is_covered (others (places_between a b)) count height low ≡ false → low + 2 ^ lower < count
+    → lefts ≡ take (length (cover_within (others (places_between a b)) count lower low)) outer → rights ≡ drop (length (cover_within (others (places_between a b)) count lower low)) outer
+    → node_digest (hash_of (joined_within (places_between a b) count lower low (drop (low - a) inner) lefts))
+    (hash_of (joined_within (places_between a b) count lower (low + 2 ^ lower) (drop (low + 2 ^ lower - a) inner) rights))
+    ≡ hash_of (joined_within (places_between a b) count height low (drop (low - a) inner) outer)
+join_both a b count height lower low inner outer lefts rights is some fits e above left right =
+    let chosen = places_between a b in
+    let cut = length (cover_within (others (places_between a b)) count lower low) in
+    let places = places_within (places_between a b) count lower low in
+    let behind : drop places (drop (low - a) inner) ≡ drop (low + 2 ^ lower - a) inner = inner_behind a b count lower low inner fits some above in
+    sym (ap (λ h. hash_of (joined_within chosen count h low (drop (low - a) inner) outer)) is
+    ∙ ap hash_of (join_node chosen count lower low (drop (low - a) inner) outer (ap (λ h. is_covered (others chosen) count h low) (sym is) ∙ e) above)
+    ∙ hash_of_node (joined_within chosen count lower low (take places (drop (low - a) inner)) (take cut outer)) (joined_within chosen count lower (low + 2 ^ lower) (drop places (drop (low - a) inner)) (drop cut outer))
+    ∙ ap (λ t. node_digest (hash_of t) (hash_of (joined_within chosen count lower (low + 2 ^ lower) (drop places (drop (low - a) inner)) (drop cut outer)))) (join_front chosen count lower low places (drop (low - a) inner) (take cut outer) (omega arith) (omega arith))
+    ∙ ap (λ xs. node_digest (hash_of (joined_within chosen count lower low (drop (low - a) inner) (take cut outer))) (hash_of (joined_within chosen count lower (low + 2 ^ lower) xs (drop cut outer)))) behind
+    ∙ ap (λ xs. node_digest (hash_of (joined_within chosen count lower low (drop (low - a) inner) xs)) (hash_of (joined_within chosen count lower (low + 2 ^ lower) (drop (low + 2 ^ lower - a) inner) (drop cut outer)))) (sym left)
+    ∙ ap (λ xs. node_digest (hash_of (joined_within chosen count lower low (drop (low - a) inner) lefts)) (hash_of (joined_within chosen count lower (low + 2 ^ lower) (drop (low + 2 ^ lower - a) inner) xs))) (sym right))
+
+uncovered_by : (chosen : ℕ → Bool) (count low : ℕ) → low < count → is_covered (others chosen) count 0 low ≡ false → (here : Bool) → chosen low ≡ here → chosen low ≡ true
+uncovered_by chosen count low within e true h = h
+uncovered_by chosen count low within e false h =
+    let top : low + 2 ^ 0 ≤ count = omega arith in
+    let covered : is_covered (others chosen) count 0 low ≡ true = rw (le-leb _ _ top, h) refl in
+    absurd (let no : true ≡ false = sym covered ∙ e in cc)
+
+-- a place that is in the tree and not one of the others is chosen
+pub uncovered_chosen : (chosen : ℕ → Bool) (count low : ℕ) → low < count → is_covered (others chosen) count 0 low ≡ false → chosen low ≡ true
+uncovered_chosen chosen count low within e = uncovered_by chosen count low within e (chosen low) refl
+
+pub first_of : (hashes : List (List ℕ)) → 0 < length hashes → get_or hashes 0 [] ≡ first_hash hashes
+first_of [] some = absurd (let none : 0 < 0 = some in omega arith)
+first_of (hash ∷ hashes) some = refl

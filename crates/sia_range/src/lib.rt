@@ -1,0 +1,25 @@
+//! Proofs of a range of places under the root of a Merkle tree (RHP2).
+//!
+//! A range of leaves, or of hashes, is proved by the roots of the largest subtrees that cover all other places, from left
+//! to right. With them the root is computed again from the range alone. The definitions stand in specs/Ranges.antt, on
+//! those of sia_merkle.
+//!
+//! It promises:
+//! - a proof is made of exactly these roots, and one is accepted exactly where it joins with the range to the root and
+//!   no hash is missing or left over;
+//! - checking takes no memory.
+//!
+//! It stands on sia_merkle for the tree, and on sia_encoding for lists.
+#![tactic(auto)]
+
+mod check;
+mod cover;
+mod leaf_nodes;
+mod places;
+mod prove;
+
+pub use check::{check_nodes, check_range};
+pub use prove::{prove_nodes, prove_range};
+
+#[cfg(test)]
+mod tests;

@@ -1,0 +1,44 @@
+//! Makes the proof of a range: the roots of the subtrees that cover all other places.
+ghost use Rattle.std.specs.Prelude.{◌≡◌, ◌<◌, ◌≤◌, IfOk, length, map};
+ghost use Rattle.sia_merkle.specs.Roots.{leaf_count, leaf_digest, leaves_of};
+ghost use Rattle.sia_merkle.specs.Segments.{cover, others, places_between, segment_roots};
+
+use crate::check::HEIGHT;
+use crate::cover::append_cover;
+use crate::leaf_nodes::LeafNodes;
+use crate::places::{Places, Side};
+use sia_blake::Hash;
+use sia_encoding::List;
+use sia_merkle::Nodes;
+use std::alloc::{AllocError, Global};
+
+/// The proof of the leaves at the places from `a` to `b` of a byte string: the roots of the largest subtrees that cover
+/// all other places, from left to right. Its error is want of memory.
+pub fn prove_range(alloc: Global, bytes: &[u8], a: u64, b: u64) -> Result<List<Hash>, AllocError>
+    requires some { a < b }
+    requires within { b ≤ leaf_count (length bytes.now) }
+    ensures { IfOk result (λ hashes. hashes ≡ segment_roots (map leaf_digest (leaves_of bytes.now)) (cover (others (places_between a b)) (leaf_count (length bytes.now)))) }
+{
+    prove_nodes(alloc, &LeafNodes { bytes }, a, b)
+}
+
+/// The same for the hashes at the places from `a` to `b` of a list of hashes.
+pub fn prove_nodes<N: Nodes>(
+    alloc: Global,
+    nodes: &N,
+    a: u64,
+    b: u64,
+) -> Result<List<Hash>, AllocError>
+    requires some { a < b }
+    requires within { b ≤ length (N.hashes nodes.now) }
+    ensures { IfOk result (λ hashes. hashes ≡ segment_roots (N.hashes nodes.now) (cover (others (places_between a b)) (length (N.hashes nodes.now)))) }
+{
+    let places = Places {
+        count: nodes.count(),
+        start: a,
+        end: b,
+    };
+    let mut roots = List::new(alloc);
+    append_cover(&mut roots, nodes, places, Side::Outside, HEIGHT, 0)?;
+    Ok(roots)
+}
