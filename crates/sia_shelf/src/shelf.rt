@@ -1,0 +1,172 @@
+//! A shelf that is open.
+ghost use Rattle.std.specs.Prelude.{◌≡◌, ◌≢◌, ◌↔◌, ◌++◌, ℕ, ◌+◌, ◌*◌, ◌^◌, ◌<◌, ◌≤◌, List, IsTrue, false, IfOk, IfErr, OnOk, OnErr, Err, length, map, take, drop, replicate};
+ghost use Rattle.sia_edge.specs.Disk.{Passes, Follows, NoneMore, Only, Quiet};
+ghost use Rattle.sia_shelf.specs.Slots.{IsSectorSize, Has, InEach, KeepsOthers, end_of, slot_of};
+ghost use Rattle.sia_shelf.specs.Shelf.{ShelfState, mark_of, with_mark, free_slots, settled, LowerTaken, KeepsLive, DiskFault, ReadCause};
+
+use crate::fault::{ShelfFault, done};
+use crate::mark::{Mark, all_free, find_free, settle};
+use crate::slot::{place_of, write_slot};
+use sia_edge::{Disk, ReadFault, read_into};
+use sia_encoding::{Blob, List};
+use std::alloc::{AllocError, Global};
+use std::marker::Model;
+
+/// Sectors in the slots of a disk.
+#[derive(Drop)]
+pub struct Shelf<D: Disk> {
+    disk: D,
+    // how many bytes a sector has
+    sector: u64,
+    // one for each slot
+    marks: Vec<Mark>,
+}
+
+impl<D: Disk> Model for Shelf<D> {
+    ghost use Rattle.std.specs.Prelude.{length};
+    ghost use Rattle.sia_shelf.specs.Shelf.{ShelfState, IsShelf};
+
+    ghost Value = { ShelfState D };
+
+    ghost view = { λ shelf. record { disk = shelf.disk; sector = shelf.sector; marks = shelf.marks.items } };
+
+    ghost invariant = { λ shelf. IsShelf shelf.sector shelf.marks.items (length (D.seen shelf.disk)) };
+}
+
+impl<D: Disk> Shelf<D> {
+    /// A shelf with so many slots, all free, over a disk on which nothing is pending. A sector has this size, in bytes. It
+    /// makes the room for the marks. Its error is want of memory, and gives the disk back.
+    pub fn new(alloc: Global, disk: D, sector: u64, slots: u64) -> Result<Shelf<D>, (AllocError, D)>
+        requires size { IsSectorSize sector }
+        requires few { slots ≤ 2 ^ 20 }
+        requires settled { Only (D.seen disk) (D.since disk (D.moment disk)) }
+        ensures ok { IfOk result (λ shelf. shelf ≡ record { disk = disk; sector = sector; marks = replicate slots Mark.Free }) }
+        ensures err { IfErr result (λ refused. refused.1 ≡ disk) }
+    {
+        match all_free(alloc, slots) {
+            Ok(marks) => Ok(Shelf {
+                disk,
+                sector,
+                marks,
+            }),
+            Err(fault) => Err((fault, disk)),
+        }
+    }
+
+    /// Makes a slot live, whose bytes are on the disk. It answers false, and changes nothing, where there is no such slot
+    /// or it is live.
+    pub fn mark(&mut self, slot: u64) -> bool
+        requires fits { slot < length self.old.marks → end_of self.old.sector slot ≤ length (D.seen self.old.disk) }
+        requires settled { mark_of self.old.marks slot ≢ Mark.Put }
+        ensures marked { IsTrue result → self.new ≡ with_mark self.old slot Mark.Live }
+        ensures kept { result ≡ false → self.new ≡ self.old }
+        ensures exact { IsTrue result ↔ ((slot < length self.old.marks) × (mark_of self.old.marks slot ≢ Mark.Live)) }
+    {
+        if slot >= self.marks.len() as u64 || self.marks[slot as usize] == Mark::Live {
+            return false;
+        }
+        self.marks[slot as usize] = Mark::Live;
+        true
+    }
+
+    /// The first `more` free slots, in order. `Full` comes exactly where fewer are free; `Memory` is its other fault.
+    pub fn find(&self, alloc: Global, more: u64) -> Result<List<u64>, ShelfFault>
+        ensures ok { IfOk result (λ slots. slots ≡ take more (free_slots self.now.marks)) }
+        ensures full { result ≡ Err ShelfFault.Full ↔ (length (free_slots self.now.marks) < more) }
+        ensures cause { IfErr result (λ fault. fault ≢ ShelfFault.Full → fault ≡ ShelfFault.Memory) }
+    {
+        find_free(alloc, self.marks.as_slice(), more)
+    }
+
+    /// Writes a sector into a free slot. The lower slots aren't free. It takes no memory. `Disk` is its one fault: the slot
+    /// is free then, and may hold anything.
+    pub fn put(&mut self, slot: u64, bytes: &[u8]) -> Result<(), ShelfFault>
+        requires there { slot < length self.old.marks }
+        requires free { mark_of self.old.marks slot ≡ Mark.Free }
+        requires lower { LowerTaken self.old.marks slot }
+        requires size { length bytes.now ≡ self.old.sector }
+        ensures marked { OnOk result (self.new.marks ≡ (with_mark self.old slot Mark.Put).marks) }
+        ensures unmarked { OnErr result (self.new.marks ≡ self.old.marks) }
+        ensures sector { self.new.sector ≡ self.old.sector }
+        ensures longer { length (D.seen self.old.disk) ≤ length (D.seen self.new.disk) }
+        ensures wrote { IsTrue D.tells → OnOk result (Has self.old.sector slot bytes.now (D.seen self.new.disk)) }
+        ensures others { IsTrue D.tells → KeepsOthers self.old.sector slot (D.seen self.old.disk) (D.seen self.new.disk) }
+        ensures images { Follows (KeepsOthers self.old.sector slot) (D.since self.old.disk (D.moment self.old.disk)) (D.since self.new.disk (D.moment self.old.disk)) }
+        ensures live { KeepsLive D.moment D.since self.old self.new }
+        ensures time { Passes (D.moment self.old.disk) (D.moment self.new.disk) (D.since self.old.disk) (D.since self.new.disk) }
+        ensures later { D.faults self.old.disk ≤ D.faults self.new.disk }
+        ensures cause { IfErr result (DiskFault (D.faults self.old.disk) (D.faults self.new.disk)) }
+    {
+        write_slot(&mut self.disk, slot * self.sector, bytes)?;
+        self.marks[slot as usize] = Mark::Put;
+        Ok(())
+    }
+
+    /// Makes each slot live that was put since the last sync, so that a crash leaves its bytes. It takes no memory. `Disk` is
+    /// its one fault.
+    pub fn sync(&mut self) -> Result<(), ShelfFault>
+        ensures marked { OnOk result (self.new.marks ≡ map settled self.old.marks) }
+        ensures unmarked { OnErr result (self.new.marks ≡ self.old.marks) }
+        ensures sector { self.new.sector ≡ self.old.sector }
+        ensures same { D.seen self.new.disk ≡ D.seen self.old.disk }
+        ensures settled { OnOk result (Only (D.seen self.new.disk) (D.since self.new.disk (D.moment self.new.disk))) }
+        ensures kept { OnOk result ((slot : ℕ) (bytes : List ℕ) → Has self.old.sector slot bytes (D.seen self.old.disk)
+            → InEach self.old.sector slot bytes (D.since self.new.disk (D.moment self.new.disk))) }
+        ensures images { NoneMore (D.since self.old.disk (D.moment self.old.disk)) (D.since self.new.disk (D.moment self.old.disk)) }
+        ensures live { KeepsLive D.moment D.since self.old self.new }
+        ensures time { Passes (D.moment self.old.disk) (D.moment self.new.disk) (D.since self.old.disk) (D.since self.new.disk) }
+        ensures later { D.faults self.old.disk ≤ D.faults self.new.disk }
+        ensures cause { IfErr result (DiskFault (D.faults self.old.disk) (D.faults self.new.disk)) }
+    {
+        done(self.disk.sync())?;
+        settle(self.marks.as_mut_slice());
+        Ok(())
+    }
+
+    /// Appends the bytes of a slot to `out`, which stays as it was after an `Err`. `Short` comes exactly where the disk ends
+    /// before the slot does, so only of a free slot. `Memory` never comes where `out` is empty and has room for a sector.
+    pub fn read(&mut self, alloc: Global, slot: u64, out: &mut Blob) -> Result<(), ShelfFault>
+        ensures bytes { IsTrue D.tells → OnOk result (out.new ≡ out.old ++ slot_of self.old.sector slot (D.seen self.old.disk)) }
+        ensures size { OnOk result (length out.new ≡ length out.old + self.old.sector) }
+        ensures err { OnErr result (out.new ≡ out.old) }
+        ensures short { length (D.seen self.old.disk) < end_of self.old.sector slot → result ≡ Err (ShelfFault.Short slot) }
+        ensures whole { mark_of self.old.marks slot ≢ Mark.Free → end_of self.old.sector slot ≤ length (D.seen self.old.disk) }
+        ensures marks { self.new.marks ≡ self.old.marks }
+        ensures sector { self.new.sector ≡ self.old.sector }
+        ensures quiet { Quiet D.seen D.moment D.since self.old.disk self.new.disk }
+        ensures later { D.faults self.old.disk ≤ D.faults self.new.disk }
+        ensures cause { IfErr result (ReadCause (D.faults self.old.disk) (D.faults self.new.disk) self.old.sector slot (length (D.seen self.old.disk))) }
+    {
+        let Some(place) = place_of(self.disk.length(), self.sector, slot) else {
+            return Err(ShelfFault::Short { slot });
+        };
+        match read_into(alloc, &mut self.disk, place, self.sector, out) {
+            Ok(()) => Ok(()),
+            Err(ReadFault::Failed) => Err(ShelfFault::Disk),
+            Err(ReadFault::Memory) => Err(ShelfFault::Memory),
+        }
+    }
+
+    /// Makes a live slot free. All else stays. It takes no memory.
+    pub fn free(&mut self, slot: u64)
+        requires { mark_of self.old.marks slot ≡ Mark.Live }
+        ensures { self.new ≡ with_mark self.old slot Mark.Free }
+    {
+        self.marks[slot as usize] = Mark::Free;
+    }
+
+    /// How long the disk is, in bytes.
+    pub fn length(&self) -> u64
+        ensures { result ≡ length (D.seen self.now.disk) }
+    {
+        self.disk.length()
+    }
+
+    /// Gives the disk back.
+    pub fn close(self) -> D
+        ensures { result ≡ self.disk }
+    {
+        let Shelf { disk, .. } = self;
+        disk
+    }
+}
