@@ -1,21 +1,25 @@
 -- How a command is answered, from how it ended and from what was told of it.
 use Rattle.std.proofs.Common.{◌≡◌, ℕ, List, Option, Some, None, Result, Ok, Err, ◌⊎◌, inl, inr, refl, sym, ◌∙◌, subst}
 use Rattle.std.specs.Io.KnownBytes.{Keeps}
+use Rattle.sia_program.specs.declared.form.Form.{Form}
+use Rattle.sia_program.specs.declared.form.Form.TheVariants as form
 use Rattle.sia_program.specs.declared.stop.Stop.{Stop}
 use Rattle.sia_program.specs.declared.stop.Stop.TheVariants as stop
-use Rattle.sia_program.specs.Outcome.{outcome}
-use Rattle.sia_program.specs.Answer.{IfTold, status_of, IsQuiet, Ended, IsToldAs, TellsReason, Answered}
+use Rattle.sia_program.specs.Outcome.{OfOutcome}
+use Rattle.sia_program.specs.Answer.{status_of, IsQuiet, Ended, IsToldAs, TellsReason, Answered}
 
 -- bytes that nothing touched are kept
 pub Keeps-same : (bytes : Option (List ℕ)) → Keeps bytes bytes
 Keeps-same None = tt
 Keeps-same (Some bytes) = refl
 
--- a fact of told bytes, from another
-IfTold-weaker : (config input : Option (List ℕ)) (P Q : List ℕ → List ℕ → Type 0) → ((c f : List ℕ) → P c f → Q c f) → IfTold config input P → IfTold config input Q
-IfTold-weaker (Some c) (Some f) P Q weaker told = weaker c f told
-IfTold-weaker (Some c) None P Q weaker told = tt
-IfTold-weaker None input P Q weaker told = tt
+-- a fact of what told bytes are to give, from another
+pub OfOutcome-weaker : (form : Form) (config input : Option (List ℕ)) (P Q : Result (List ℕ) Stop → Type 0) → ((given : Result (List ℕ) Stop) → P given → Q given) → OfOutcome form config input P → OfOutcome form config input Q
+OfOutcome-weaker form.Ledger (Some c) (Some f) P Q weaker told = weaker _ told
+OfOutcome-weaker form.Ledger (Some c) None P Q weaker told = tt
+OfOutcome-weaker form.Ledger None input P Q weaker told = tt
+OfOutcome-weaker form.Root config (Some file) P Q weaker told = weaker _ told
+OfOutcome-weaker form.Root config None P Q weaker told = tt
 
 -- no end has the status of words without a form
 pub status_of-form : {A : Type 0} (end : Result A Stop) → status_of end ≡ 1 → ⊥
@@ -40,8 +44,8 @@ ended_as_told stop.Memory told given old new (inr (memory, refused)) ended = abs
 ended_as_told stop.Long told given old new (inr (memory, refused)) ended = absurd refused
 
 -- the work was done, and nothing is told
-pub answered_done : (config input out_old out_new err : Option (List ℕ)) (failed : Type 0) → IfTold config input (λ c f. Ended (Ok tt) (outcome c f) out_old out_new) → Answered 0 config input out_old out_new err err failed
-answered_done config input out_old out_new err failed told = record {
+pub answered_done : (form : Form) (config input out_old out_new err : Option (List ℕ)) (failed : Type 0) → OfOutcome form config input (λ given. Ended (Ok tt) given out_old out_new) → Answered form 0 config input out_old out_new err err failed
+answered_done form config input out_old out_new err failed told = record {
   end = Ok tt;
   status_is = refl;
   line = Keeps-same err;
@@ -50,13 +54,13 @@ answered_done config input out_old out_new err failed told = record {
 }
 
 -- the command stopped, and why is told
-pub answered_stopped : (reason : Stop) (status : ℕ) (config input out_old out_new err_old err_new : Option (List ℕ)) (failed : Type 0) → TellsReason reason status err_old err_new failed → IsQuiet (Err reason) out_old out_new → IfTold config input (λ c f. Ended (Err reason) (outcome c f) out_old out_new) → Answered status config input out_old out_new err_old err_new failed
-answered_stopped reason status config input out_old out_new err_old err_new failed (told, same, is, line) quiet ended = record {
+pub answered_stopped : (form : Form) (reason : Stop) (status : ℕ) (config input out_old out_new err_old err_new : Option (List ℕ)) (failed : Type 0) → TellsReason reason status err_old err_new failed → IsQuiet (Err reason) out_old out_new → OfOutcome form config input (λ given. Ended (Err reason) given out_old out_new) → Answered form status config input out_old out_new err_old err_new failed
+answered_stopped form reason status config input out_old out_new err_old err_new failed (told, same, is, line) quiet ended = record {
   end = Err told;
   status_is = is;
   line = line;
   quiet = quiet_as_told reason told out_old out_new same quiet;
-  told = IfTold-weaker config input _ _ (λ c f. ended_as_told reason told (outcome c f) out_old out_new same) ended;
+  told = OfOutcome-weaker form config input _ _ (λ given. ended_as_told reason told given out_old out_new same) ended;
 }
 
 -- a status that words with a form can't have
@@ -79,6 +83,6 @@ completed (Err stop.Memory) status given old new Fell is fell none ended = inl i
 completed (Err stop.Outside) status given old new Fell is fell none ended = absurd (none (fell is))
 
 -- over told bytes, where nothing outside failed, the status is that of what they give, or that of want of memory
-pub answered-completed : (status : ℕ) (config input out_old out_new err_old err_new : Option (List ℕ)) (failed Fell : Type 0) → Answered status config input out_old out_new err_old err_new failed → (status ≡ 3 → Fell) → ¬ Fell → IfTold config input (λ c f. (status ≡ 5) ⊎ (status ≡ status_of (outcome c f)))
-answered-completed status config input out_old out_new err_old err_new failed Fell answered fell none =
-    IfTold-weaker config input _ _ (λ c f. completed answered.end status (outcome c f) out_old out_new Fell answered.status_is fell none) answered.told
+pub answered-completed : (form : Form) (status : ℕ) (config input out_old out_new err_old err_new : Option (List ℕ)) (failed Fell : Type 0) → Answered form status config input out_old out_new err_old err_new failed → (status ≡ 3 → Fell) → ¬ Fell → OfOutcome form config input (λ given. (status ≡ 5) ⊎ (status ≡ status_of given))
+answered-completed form status config input out_old out_new err_old err_new failed Fell answered fell none =
+    OfOutcome-weaker form config input _ _ (λ given. completed answered.end status given out_old out_new Fell answered.status_is fell none) answered.told

@@ -1,23 +1,12 @@
--- What a command over a configuration and a feed answers, and what it leaves in the outside.
-use Rattle.std.specs.Prelude.{◌≡◌, ℕ, List, [], ◌∷◌, codes, Bool, false, nat_eq, Option, Some, None, Result, Ok, Err, ◌⊎◌}
-use Rattle.std.specs.Cmp.Lexicographic.{pointwise}
+-- What a command answers, and what it leaves in the outside.
+use Rattle.std.specs.Prelude.{◌≡◌, ℕ, List, Option, Result, Ok, Err, ◌⊎◌}
 use Rattle.std.specs.Io.KnownBytes.{Keeps, Appends}
 use Rattle.sia_edge.specs.Whole.{AppendsSomeOf}
+use Rattle.sia_program.specs.declared.form.Form.{Form}
 use Rattle.sia_program.specs.declared.stop.Stop.{Stop}
 use Rattle.sia_program.specs.declared.stop.Stop.TheVariants as stop
-use Rattle.sia_program.specs.Outcome.{outcome}
+use Rattle.sia_program.specs.Outcome.{OfOutcome}
 use Rattle.sia_program.specs.Texts.{stop_line}
-
--- a fact of the bytes of two sources, where both are told
-abbrev pub IfTold : Option (List ℕ) → Option (List ℕ) → (List ℕ → List ℕ → Type 0) → Type 0
-IfTold (Some first) (Some second) P = P first second
-IfTold (Some first) None P = Unit {0}
-IfTold None second P = Unit {0}
-
--- whether words have a form: `ledger`, a configuration and a feed
-abbrev pub has_form : List (List ℕ) → Bool
-has_form (command ∷ config ∷ feed ∷ []) = pointwise nat_eq command (codes "ledger")
-has_form _ = false
 
 -- the status of a command that had a form, by its end
 abbrev pub status_of : {A : Type 0} → Result A Stop → ℕ
@@ -71,9 +60,9 @@ TellsReason reason status old new failed =
 
 -- What a command with a form answered: there is an end, so that the status is its status, `err` took its line, `out` took
 -- nothing unless the work was done or a call of the outside failed, and over told bytes it is the end that they give.
-pub record Answered (status : ℕ) (config input out_old out_new err_old err_new : Option (List ℕ)) (err_failed : Type 0) : Type 0 where
+pub record Answered (form : Form) (status : ℕ) (config input out_old out_new err_old err_new : Option (List ℕ)) (err_failed : Type 0) : Type 0 where
   pub end : Result (Unit {0}) Stop
   pub status_is : status ≡ status_of end
   pub line : TellsEnd end err_old err_new err_failed
   pub quiet : IsQuiet end out_old out_new
-  pub told : IfTold config input (λ c f. Ended end (outcome c f) out_old out_new)
+  pub told : OfOutcome form config input (λ given. Ended end given out_old out_new)

@@ -1,12 +1,15 @@
--- What the command `ledger` is to do with the bytes of its configuration and of its feed.
-use Rattle.std.specs.Prelude.{ℕ, ◌^◌, List, [], ◌∷◌, length, nat_le, ◌==◌, if◌then◌else◌, Option, Some, None, Result, Ok, Err}
+-- What the commands are to do with the bytes of what their words name.
+use Rattle.std.specs.Prelude.{ℕ, ◌^◌, List, [], ◌∷◌, length, nat_le, ◌==◌, if◌then◌else◌, Option, Some, None, IfSome, Result, Ok, Err}
 use Rattle.sia_ledger.specs.declared.fault.BlockFault.{BlockFault}
 use Rattle.sia_ledger.specs.declared.block.Block.{Block}
 use Rattle.sia_ledger.specs.Chain.{Chain, height, begun, extended, shortened}
 use Rattle.sia_ledger.specs.Holdings.{tip, sums_of}
 use Rattle.sia_ledger.specs.Refusal.{refusal as refusal_of}
+use Rattle.sia_merkle.specs.Roots.{leaf_count, leaves_of, root_of}
 use Rattle.sia_program.specs.declared.feed.Entry.{Entry}
 use Rattle.sia_program.specs.declared.feed.Entry.TheVariants as entry
+use Rattle.sia_program.specs.declared.form.Form.{Form}
+use Rattle.sia_program.specs.declared.form.Form.TheVariants as form
 use Rattle.sia_program.specs.declared.stop.Refusal.{Refusal}
 use Rattle.sia_program.specs.declared.stop.Refusal.TheVariants as refusal
 use Rattle.sia_program.specs.declared.stop.Stop.{Stop}
@@ -14,7 +17,7 @@ use Rattle.sia_program.specs.declared.stop.Stop.TheVariants as stop
 use Rattle.sia_program.specs.Config.{config_of}
 use Rattle.sia_program.specs.Feed.{entries_of}
 use Rattle.sia_program.specs.Steps.{◌>>=◌, or_config_refused, or_refused}
-use Rattle.sia_program.specs.Texts.{sums_text}
+use Rattle.sia_program.specs.Texts.{root_text, sums_text}
 
 -- a block behind a chain, or the rule that it breaks
 abbrev pub judged : Chain → Block → Option BlockFault → Result Chain Refusal
@@ -56,8 +59,26 @@ finish first feed = do
   chain ← or_refused (run first entries)
   Ok (sums_text (sums_of chain) (tip chain))
 
--- the text that is printed, or why there is none. The configuration is read and judged before the feed.
-unfoldable pub outcome : List ℕ → List ℕ → Result (List ℕ) Stop
-outcome config feed = do
+-- the text that `ledger` prints, or why there is none. The configuration is read and judged before the feed.
+unfoldable pub ledger_outcome : List ℕ → List ℕ → Result (List ℕ) Stop
+ledger_outcome config feed = do
   chain ← begin config
   finish chain feed
+
+-- the text that `root` prints of a file of at most 2^30 bytes
+unfoldable pub root_outcome : List ℕ → Result (List ℕ) Stop
+root_outcome file = do
+  bytes ← within (2 ^ 30) file
+  Ok (root_text (root_of (leaves_of bytes)) (leaf_count (length bytes)) (length bytes))
+
+-- a fact of the bytes of two sources, where both are told
+abbrev pub IfTold : Option (List ℕ) → Option (List ℕ) → (List ℕ → List ℕ → Type 0) → Type 0
+IfTold (Some first) (Some second) P = P first second
+IfTold (Some first) None P = Unit {0}
+IfTold None second P = Unit {0}
+
+-- A fact of what a form's words are to give, where the bytes that they name are told: a configuration and an input, of
+-- which `root` has the input alone.
+abbrev pub OfOutcome : Form → Option (List ℕ) → Option (List ℕ) → (Result (List ℕ) Stop → Type 0) → Type 0
+OfOutcome form.Ledger config input P = IfTold config input (λ c f. P (ledger_outcome c f))
+OfOutcome form.Root config input P = IfSome input (λ file. P (root_outcome file))

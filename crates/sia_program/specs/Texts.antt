@@ -27,6 +27,10 @@ sums_text sums tip =
     line (codes "unclaimed") (decimal sums.unclaimed) ++
     line (codes "issued") (decimal sums.issued)
 
+-- the root of a file, how many leaves it has, and how many bytes
+unfoldable pub root_text : List ℕ → ℕ → ℕ → List ℕ
+root_text root leaves bytes = codes "root " ++ (encode_lower root ++ (codes " leaves " ++ (decimal leaves ++ (codes " bytes " ++ (decimal bytes ++ codes "\n")))))
+
 -- a refusal of a block: its number, its name, and its fields in order. `Memory` is no refusal and isn't printed.
 unfoldable pub block_fault_text : BlockFault → List ℕ
 block_fault_text (block_fault.BadParent tip) = codes "B1 BadParent " ++ encode_lower tip

@@ -1,20 +1,23 @@
-//! The commands that read a configuration and an input, and print a text.
-ghost use Rattle.std.specs.Prelude.{◌↔◌, true, false, ◌≡◌, ◌≢◌, ◌≤◌, ◌<◌, ◌^◌, ◌⊎◌, Err, IfSome, string_bytes};
+//! The commands that read their input whole, and print a text.
+ghost use Rattle.std.specs.Prelude.{◌↔◌, ◌≡◌, ◌≢◌, ◌≤◌, ◌<◌, ◌^◌, ◌⊎◌, Err, Some, None, IfSome, string_bytes};
 ghost use Rattle.std.specs.Io.KnownBytes.{Keeps, Appends};
 ghost use Rattle.sia_edge.specs.Edge.{Rose};
 ghost use Rattle.sia_program.specs.Steps.{Finds};
 ghost use Rattle.sia_program.specs.Texts.{usage_line};
-ghost use Rattle.sia_program.specs.Outcome.{within, begin, finish, outcome};
-ghost use Rattle.sia_program.specs.Answer.{has_form as has_form_of, status_of, IfTold, Ended, IsQuiet, Tells, TellsReason, Answered};
+ghost use Rattle.sia_program.specs.Form.{form_of};
+ghost use Rattle.sia_program.specs.Outcome.{within, begin, finish, ledger_outcome, root_outcome, IfTold, OfOutcome};
+ghost use Rattle.sia_program.specs.Answer.{status_of, Ended, IsQuiet, Tells, TellsReason, Answered};
 
 use crate::config::read_config;
 use crate::feed::read_feed;
+use crate::form::{Form, read_form};
 use crate::run::{begin_ledger, run_entries};
 use crate::stop::Stop;
-use crate::texts::{refused_line, sums_text};
+use crate::texts::{refused_line, root_text, sums_text};
 use sia_edge::{Ending, Sink, Source, read_to_bound, write_all};
 use sia_encoding::Blob;
 use sia_ledger::Ledger;
+use sia_merkle::{leaves, root};
 use std::alloc::Global;
 
 /// The most bytes that a configuration may have.
@@ -67,16 +70,65 @@ fn finish_with<S: Source>(alloc: Global, mut ledger: Ledger, input: &mut S) -> R
     Ok(text)
 }
 
-/// `ledger` over the bytes of its configuration and of its feed: prints the sums of the chain.
-#[tactic(auto, unfolding(crate::specs::Outcome::outcome))]
-fn run_ledger<S: Source, K: Sink>(
+/// What `ledger` prints: the sums of the chain that a configuration and a feed make.
+#[tactic(auto, unfolding(crate::specs::Outcome::ledger_outcome))]
+fn text_of_ledger<S: Source>(alloc: Global, config: &mut S, input: &mut S) -> Result<String, Stop>
+    ensures told { IfTold (S.left config.old) (S.left input.old) (λ c f. Finds string_bytes result (ledger_outcome c f)) }
+    ensures failed { result ≡ Err Stop.Outside →
+        Rose (S.faults config.old) (S.faults config.new) ⊎ Rose (S.faults input.old) (S.faults input.new) }
+    ensures config_later { S.faults config.old ≤ S.faults config.new }
+    ensures input_later { S.faults input.old ≤ S.faults input.new }
+{
+    let ledger = begin_from(alloc, config)?;
+    let text = finish_with(alloc, ledger, input)?;
+    Ok(text)
+}
+
+/// What `root` prints: the root of a file, and how many leaves and bytes it has.
+#[tactic(auto, unfolding(crate::specs::Outcome::root_outcome))]
+fn text_of_root<S: Source>(alloc: Global, input: &mut S) -> Result<String, Stop>
+    ensures told { IfSome (S.left input.old) (λ left. Finds string_bytes result (root_outcome left)) }
+    ensures later { S.faults input.old ≤ S.faults input.new }
+    ensures failed { result ≡ Err Stop.Outside → Rose (S.faults input.old) (S.faults input.new) }
+{
+    let bytes = read_within(alloc, input, INPUT_BOUND)?;
+    let size = bytes.len() as u64;
+    let hash = root(bytes.as_slice());
+    let text = root_text(alloc, &hash, leaves(size), size)?;
+    Ok(text)
+}
+
+/// What a form prints. `root` doesn't touch the configuration.
+fn text_of<S: Source>(
     alloc: Global,
+    form: Form,
+    config: &mut S,
+    input: &mut S,
+) -> Result<String, Stop>
+    ensures told { OfOutcome form (S.left config.old) (S.left input.old) (λ given. Finds string_bytes result given) }
+    ensures unread { form ≡ Form.Root → config.new ≡ config.old }
+    ensures failed { result ≡ Err Stop.Outside →
+        Rose (S.faults config.old) (S.faults config.new) ⊎ Rose (S.faults input.old) (S.faults input.new) }
+    ensures config_later { S.faults config.old ≤ S.faults config.new }
+    ensures input_later { S.faults input.old ≤ S.faults input.new }
+{
+    match form {
+        Form::Ledger => text_of_ledger(alloc, config, input),
+        Form::Root => text_of_root(alloc, input),
+    }
+}
+
+/// Prints what a form prints, once its whole input is read and accepted.
+fn print<S: Source, K: Sink>(
+    alloc: Global,
+    form: Form,
     config: &mut S,
     input: &mut S,
     out: &mut K,
 ) -> Result<(), Stop>
-    ensures told { IfTold (S.left config.old) (S.left input.old)
-        (λ c f. Ended result (outcome c f) (K.taken out.old) (K.taken out.new)) }
+    ensures told { OfOutcome form (S.left config.old) (S.left input.old)
+        (λ given. Ended result given (K.taken out.old) (K.taken out.new)) }
+    ensures unread { form ≡ Form.Root → config.new ≡ config.old }
     ensures quiet { IsQuiet result (K.taken out.old) (K.taken out.new) }
     ensures failed { result ≡ Err Stop.Outside →
         Rose (S.faults config.old) (S.faults config.new)
@@ -86,20 +138,10 @@ fn run_ledger<S: Source, K: Sink>(
     ensures input_later { S.faults input.old ≤ S.faults input.new }
     ensures out_later { K.faults out.old ≤ K.faults out.new }
 {
-    let ledger = begin_from(alloc, config)?;
-    let text = finish_with(alloc, ledger, input)?;
+    let text = text_of(alloc, form, config, input)?;
     match write_all(out, text.as_str().as_bytes()) {
         Ok(()) => Ok(()),
         Err(_) => Err(Stop::Outside),
-    }
-}
-
-fn has_form(words: &[Blob]) -> bool
-    ensures { result ≡ has_form_of words.now }
-{
-    match words {
-        [command, _, _] => command.as_slice() == b"ledger".as_slice(),
-        _ => false,
     }
 }
 
@@ -144,9 +186,14 @@ fn tell<K: Sink>(alloc: Global, stop: Stop, err: &mut K) -> u8
 
 /// Runs the command that the words name, and answers its status.
 ///
-/// The one form is `ledger CONFIG FEED`: `config` gives the bytes of CONFIG, at most 65,536, and `input` those of FEED, at
-/// most 2^30. It applies the feed to the chain that the configuration begins, and writes the sums to `out`. Nothing is
-/// written to `out` before the whole input was accepted.
+/// The forms are:
+///
+/// - `ledger CONFIG FEED`: `config` gives the bytes of CONFIG, at most 65,536, and `input` those of FEED, at most 2^30. It
+///   applies the feed to the chain that the configuration begins, and writes the sums to `out`.
+/// - `root FILE`: `input` gives the bytes of FILE, at most 2^30. It writes the file's Merkle root, the count of its leaves
+///   and that of its bytes to `out`. `config` isn't read.
+///
+/// Nothing is written to `out` before the whole input was accepted.
 ///
 /// | Status | Exactly where | Line on `err` |
 /// |---|---|---|
@@ -167,16 +214,19 @@ pub fn run_plain<S: Source, K: Sink>(
     err: &mut K,
 ) -> u8
     // Status 1 is exactly that of words without a form. Then nothing is read, and nothing written but the usage.
-    ensures usage { (result ≡ 1) ↔ (has_form_of words.now ≡ false) }
-    ensures unnamed { has_form_of words.now ≡ false →
+    ensures usage { (result ≡ 1) ↔ (form_of words.now ≡ None) }
+    ensures unnamed { form_of words.now ≡ None →
         Keeps (K.taken out.old) (K.taken out.new) ×
         Tells usage_line (K.taken err.old) (K.taken err.new) (Rose (K.faults err.old) (K.faults err.new)) }
 
     // What the status says of the bytes that were read, and what `out` and `err` took.
-    ensures answered { has_form_of words.now ≡ true →
-        Answered result (S.left config.old) (S.left input.old)
+    ensures answered { (form : Form) → form_of words.now ≡ Some form →
+        Answered form result (S.left config.old) (S.left input.old)
         (K.taken out.old) (K.taken out.new)
         (K.taken err.old) (K.taken err.new) (Rose (K.faults err.old) (K.faults err.new)) }
+
+    // `root` leaves the configuration as it was.
+    ensures unread { form_of words.now ≡ Some Form.Root → config.new ≡ config.old }
 
     // Status 3 has its cause in the outside.
     ensures outside { result ≡ 3 →
@@ -185,18 +235,18 @@ pub fn run_plain<S: Source, K: Sink>(
         ⊎ Rose (K.faults out.old) (K.faults out.new)) }
 
     // Where nothing in the outside failed, the status is that of what the bytes give, or want of memory.
-    ensures complete { has_form_of words.now ≡ true →
+    ensures complete { (form : Form) → form_of words.now ≡ Some form →
         ¬ (Rose (S.faults config.old) (S.faults config.new)
         ⊎ (Rose (S.faults input.old) (S.faults input.new)
         ⊎ Rose (K.faults out.old) (K.faults out.new))) →
-        IfTold (S.left config.old) (S.left input.old)
-        (λ c f. (result ≡ 5) ⊎ (result ≡ status_of (outcome c f))) }
+        OfOutcome form (S.left config.old) (S.left input.old)
+        (λ given. (result ≡ 5) ⊎ (result ≡ status_of given)) }
 {
-    if !has_form(words) {
+    let Some(form) = read_form(words) else {
         write_line(err, "sia-v1: usage\n".as_bytes());
         return 1;
-    }
-    match run_ledger(alloc, config, input, out) {
+    };
+    match print(alloc, form, config, input, out) {
         Ok(()) => 0,
         Err(stop) => tell(alloc, stop, err),
     }

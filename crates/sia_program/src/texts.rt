@@ -3,7 +3,7 @@
 ghost use Rattle.std.specs.Prelude.{◌≡◌, ◌++◌, IfOk, OnOk, string_bytes, decimal};
 ghost use Rattle.hex.specs.Hex.{encode_lower};
 ghost use Rattle.sia_program.specs.Texts.{line, key_text, stop_line};
-ghost use Rattle.sia_program.specs.Texts.{sums_text as sums_text_of, block_fault_text as block_fault_text_of, refusal_text as refusal_text_of};
+ghost use Rattle.sia_program.specs.Texts.{sums_text as sums_text_of, block_fault_text as block_fault_text_of, refusal_text as refusal_text_of, root_text as root_text_of};
 
 use crate::config::ConfigKey;
 use crate::stop::{Refusal, Stop};
@@ -47,6 +47,15 @@ pub fn sums_text(alloc: Global, sums: &Sums, tip: &Hash) -> Result<String, Alloc
     put_number(&mut out, "unclaimed", sums.unclaimed)?;
     put_number(&mut out, "issued", sums.issued)?;
     Ok(out)
+}
+
+/// The line of a file's root, the count of its leaves and that of its bytes.
+#[tactic(auto, unfolding(crate::specs::Texts::root_text))]
+pub fn root_text(alloc: Global, root: &Hash, leaves: u64, bytes: u64) -> Result<String, AllocError>
+    ensures { IfOk result (λ text. string_bytes text ≡ root_text_of root.now leaves bytes) }
+{
+    let root = hash_text(alloc, root)?;
+    format!(in alloc; "root {root} leaves {leaves} bytes {bytes}\n")
 }
 
 /// A refusal of a block: its number, its name, and its fields in order.
