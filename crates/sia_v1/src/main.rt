@@ -42,13 +42,15 @@ fn arguments<R: Env>(rt: &R, alloc: Global) -> Result<List<Blob>, AllocError> {
     Ok(words)
 }
 
-/// The files that the words name: a configuration and an input. One that doesn't open fails at its first read.
+/// The files that the words name: a configuration and an input, or an input alone. One that isn't named or doesn't open
+/// fails at its first read.
 fn open_files<R: Files<File = File>>(rt: &R, words: &[Blob]) -> (FileSource, FileSource) {
     match words {
         [_, config, input] => (
             FileSource::open(rt, config.as_slice()),
             FileSource::open(rt, input.as_slice()),
         ),
+        [_, input] => (FileSource::empty(), FileSource::open(rt, input.as_slice())),
         _ => (FileSource::empty(), FileSource::empty()),
     }
 }
