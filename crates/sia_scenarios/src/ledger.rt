@@ -1,8 +1,7 @@
 //! The command `ledger`, from the bytes that come in to those that go out.
 //!
 //! The blocks, identifiers and sums were worked out by Python's hashlib and integers.
-use sia_edge::{MemSink, MemSource};
-use sia_encoding::{Blob, List};
+use crate::memory::{sink, source, words};
 use sia_program::run_plain;
 use std::alloc::Global;
 use std::process::Abort;
@@ -51,24 +50,6 @@ struct Wanted<'a> {
     status: u8,
     out: &'a str,
     err: &'a str,
-}
-
-fn source(alloc: Global, bytes: Vec<u8>, fails: &[u64]) -> Result<MemSource, Fail> {
-    let fails = List::from_vec(fails.to_vec(alloc)?);
-    Ok(MemSource::new(Blob::from_vec(bytes), fails))
-}
-
-fn sink(alloc: Global, fails: &[u64]) -> Result<MemSink, Fail> {
-    let fails = List::from_vec(fails.to_vec(alloc)?);
-    Ok(MemSink::new(alloc, fails))
-}
-
-fn words(alloc: Global, texts: &[&str]) -> Result<List<Blob>, Fail> {
-    let mut words = List::new(alloc);
-    for text in texts {
-        words.push(Blob::from_slice(alloc, text.as_bytes())?)?;
-    }
-    Ok(words)
 }
 
 fn check(

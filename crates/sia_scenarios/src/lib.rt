@@ -4,3 +4,7 @@
 
 #[cfg(test)]
 mod ledger;
+#[cfg(test)]
+mod memory;
+#[cfg(test)]
+mod root;
