@@ -1,0 +1,43 @@
+-- Finding the last gate: the order of the causes.
+use Rattle.std.proofs.Common.{◌≡◌, ℕ, ◌^◌, ◌<◌, ◌≤◌, Bool, true, false, not, IsTrue, List, [], length, take, drop, refl, sym, ap, subst, ◌∙◌, arith}
+use Rattle.std.proofs.lemmas.Bool.Decides.{Decides-eqb}
+use Rattle.std.proofs.lemmas.Slice.Eq.{slice_eq-Decides}
+use Rattle.std.specs.Str.{bytes_eq}
+use Rattle.sia_journal.specs.declared.fault.JournalFault.{JournalFault}
+use Rattle.sia_journal.specs.declared.fault.JournalFault.TheVariants as fault
+use Rattle.sia_journal.specs.declared.window.Window.{Window}
+use Rattle.sia_journal.specs.Listed.{HEADER, FRESH, listed}
+use Rattle.sia_journal.specs.Journal.{OpenCause}
+use Rattle.sia_journal.specs.Opening.{Shows, BreaksAt, WalkCause}
+use Rattle.sia_journal.proofs.Repairing.{breaks_listed}
+
+-- an empty window
+pub shows_none : (file : List ℕ) (window : Window) → window.bytes ≡ [] → Shows file window
+shows_none file window none = none ∙ sym (ap (λ bytes. take (length bytes) (drop window.base file)) none)
+
+false_not : (b : Bool) → false ≡ not b → b ≡ true
+false_not true same = refl
+false_not false same = same
+
+pub other_header : (file header front : List ℕ) (differ : Bool) → front ≡ take HEADER file → differ ≡ not (bytes_eq front header) → differ ≡ true
+    → take HEADER file ≡ header → ⊥
+other_header file header front differ read test is same =
+    let equal : bytes_eq front header ≡ true = (slice_eq-Decides Decides-eqb front header _ refl).1 (read ∙ same) in
+    let never : differ ≡ false = test ∙ ap not equal in
+    cc (never, is)
+
+pub this_header : (file header front : List ℕ) (differ : Bool) → front ≡ take HEADER file → differ ≡ not (bytes_eq front header) → differ ≡ false
+    → take HEADER file ≡ header
+this_header file header front differ read test is =
+    sym read ∙ (slice_eq-Decides Decides-eqb front header _ refl).0 (false_not (bytes_eq front header) (sym is ∙ test))
+
+module _ (tells : Bool) (header : List ℕ) (limit : ℕ) (file : List ℕ) (size : IsTrue tells → length header ≡ HEADER) (bounded : limit < 2 ^ 64)
+    (begins : IsTrue tells → take HEADER file ≡ header) (long : FRESH < length file) (within : length file ≤ limit) where
+  pub walk_cause : (file' : List ℕ) (window : Window) (before mid now : ℕ) → file' ≡ file → before ≤ mid → (IsTrue tells → Shows file' window)
+      → (cause : JournalFault) → WalkCause tells file' window mid now cause → OpenCause tells before now (listed header limit file) cause
+  walk_cause file' window before mid now same later shows fault.Memory given = tt
+  walk_cause file' window before mid now same later shows fault.Disk given = omega (arith, later, given)
+  walk_cause file' window before mid now same later shows (fault.Damaged place) given = λ told.
+      let P : List ℕ → Type 0 = λ f. BreaksAt f place in
+      breaks_listed header (size told) limit bounded file place (subst P same (given told (shows told))) (begins told) long within
+  walk_cause file' window before mid now same later shows (fault.Full need most) given = given

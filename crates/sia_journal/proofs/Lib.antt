@@ -1,0 +1,10 @@
+mod Appending
+mod Exits
+mod Finding
+mod Frames
+mod Listing
+mod Preparing
+mod ReadingBack
+mod Repairing
+mod Tearing
+mod Walking

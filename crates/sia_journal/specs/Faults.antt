@@ -1,0 +1,9 @@
+-- What a read that failed is to the caller of a journal.
+use Rattle.sia_edge.specs.declared.read_disk.ReadFault.{ReadFault}
+use Rattle.sia_edge.specs.declared.read_disk.ReadFault.TheVariants as read
+use Rattle.sia_journal.specs.declared.fault.JournalFault.{JournalFault}
+use Rattle.sia_journal.specs.declared.fault.JournalFault.TheVariants as fault
+
+abbrev pub fault_of_read : ReadFault → JournalFault
+fault_of_read read.Failed = fault.Disk
+fault_of_read read.Memory = fault.Memory

@@ -1,0 +1,4 @@
+pub mod Listed
+pub mod Faults
+pub mod Journal
+pub mod Opening

@@ -1,0 +1,60 @@
+-- What an opening finds and repairs.
+use Rattle.std.specs.Prelude.{◌≡◌, ◌≢◌, ◌⊎◌, ℕ, ◌+◌, ◌≤◌, Bool, IsTrue, List, [], ◌∷◌, ◌++◌, length, take, drop, Option, None, Some}
+use Rattle.sia_encoding.specs.Spelling.{spelled_bytes}
+use Rattle.sia_edge.specs.Edge.{Rose}
+use Rattle.sia_journal.specs.declared.fault.JournalFault.{JournalFault}
+use Rattle.sia_journal.specs.declared.fault.JournalFault.TheVariants as fault
+use Rattle.sia_journal.specs.declared.window.Window.{Window}
+use Rattle.sia_journal.specs.declared.scan.Last.{Last}
+use Rattle.sia_journal.specs.Listed.{HEADER, frames, place_after, split_payload}
+
+-- a window lies within a file of this length
+abbrev pub Within : ℕ → Window → Type 0
+Within end window = window.base + length window.bytes ≤ end
+
+-- a window holds what stands at its place in a file
+abbrev pub Shows : List ℕ → Window → Type 0
+Shows file window = window.bytes ≡ take (length window.bytes) (drop window.base file)
+
+-- Behind the open gate at a place stands a whole payload up to the next place, or none does.
+abbrev pub FrameEnds : List ℕ → ℕ → Option ℕ → Type 0
+FrameEnds file place None = split_payload (drop (place + 1) file) ≡ None
+FrameEnds file place (Some next) =
+    (payload : List ℕ) × (drop (place + 1) file ≡ spelled_bytes payload ++ drop next file) × (next ≡ place + 9 + length payload)
+
+-- no gate, or an open one with no whole frame behind it
+abbrev pub IsBroken : List ℕ → Type 0
+IsBroken bytes = (bytes ≡ []) ⊎ ((behind : List ℕ) × (bytes ≡ 1 ∷ behind) × (split_payload behind ≡ None))
+
+-- The first gate that isn't open is this one.
+pub record IsLast (file : List ℕ) (last : Last) : Type 0 where
+  pub records : List (List ℕ)
+  pub behind : List ℕ
+  pub is : drop HEADER file ≡ frames records ++ last.gate ∷ behind
+  pub stands : last.place ≡ place_after records
+  pub shut : last.gate ≢ 1
+
+-- the gates break off at this place
+pub record BreaksAt (file : List ℕ) (place : ℕ) : Type 0 where
+  pub records : List (List ℕ)
+  pub behind : List ℕ
+  pub is : drop HEADER file ≡ frames records ++ behind
+  pub stands : place ≡ place_after records
+  pub broken : IsBroken behind
+
+-- The file begins with the header, and its first gate that isn't open is this one.
+pub record IsFound (header file : List ℕ) (last : Last) : Type 0 where
+  pub begins : take HEADER file ≡ header
+  pub ends : IsLast file last
+
+-- why a walk along the gates answers a fault
+abbrev pub WalkCause : Bool → List ℕ → Window → ℕ → ℕ → JournalFault → Type 0
+WalkCause tells file window before now fault.Memory = Unit {0}
+WalkCause tells file window before now fault.Disk = Rose before now
+WalkCause tells file window before now (fault.Damaged place) = IsTrue tells → Shows file window → BreaksAt file place
+WalkCause tells file window before now (fault.Full need limit) = ⊥
+
+-- what may be left of a file while its end behind `front` is repaired, where a gate and other bytes stand
+abbrev pub IsRepaired : List ℕ → ℕ → List ℕ → List ℕ → Type 0
+IsRepaired front gate behind file =
+    ((byte : ℕ) × (gate ≢ 0) × (file ≡ front ++ byte ∷ behind)) ⊎ ((count : ℕ) × (file ≡ front ++ 0 ∷ take count behind))

@@ -1,0 +1,141 @@
+//! A journal that is open: records are read and appended.
+ghost use Rattle.std.specs.Prelude.{◌≡◌, ◌+◌, ◌^◌, ◌<◌, ◌≤◌, ◌++◌, ◌∷◌, [], ℕ, List, IsTrue, IfOk, OnOk, OnErr, IfErr, Err, length};
+ghost use Rattle.sia_edge.specs.Disk.{Passes, Quiet};
+ghost use Rattle.sia_journal.specs.Listed.{HEADER, place_after, listed};
+ghost use Rattle.sia_journal.specs.Journal.{Holds, LeavesMidAppend, IsReady, need_for, AppendCause, Opens, OpenCause, disk_of, NextIs, ReadCause};
+
+use crate::fault::{JournalFault, done};
+use crate::opening::prepare;
+use crate::record::RecordBuf;
+use sia_edge::{Disk, read_into, read_whole};
+use sia_encoding::Blob;
+use std::alloc::Global;
+
+/// A list of records in one file.
+///
+/// Before a record is written the gate byte at the file's end is closed. The record is written behind it with a closed gate
+/// of its own, and brought onto the disk; then the gate in front of it is opened by a write of one byte. So a crash at any
+/// moment leaves the records before, or those and the new one.
+#[derive(Drop)]
+pub struct Journal<D: Disk> {
+    disk: D,
+    // where the last gate stands
+    gate: u64,
+    // the greatest length of the file, in bytes
+    limit: u64,
+}
+
+impl<D: Disk> Journal<D> {
+    /// Opens the journal of a disk, where nothing but this journal writes: makes a fresh file of one of at most 17 bytes,
+    /// and repairs the end of a longer one. The header names what is kept, and the limit is the greatest length that the
+    /// file may have, in bytes. An error hands the disk back.
+    pub fn open(
+        alloc: Global,
+        mut disk: D,
+        header: &[u8; 16],
+        limit: u64,
+    ) -> Result<Journal<D>, (JournalFault, D)>
+        requires low { 17 ≤ limit }
+        requires high { limit ≤ 2 ^ 36 }
+        ensures ready { IfOk result (λ journal. IsReady D.seen journal) }
+        ensures limit { IfOk result (λ journal. journal.limit ≡ limit) }
+        ensures listed { IsTrue D.tells → IfOk result (λ journal. Opens D.seen D.moment D.since header.now limit disk journal.disk) }
+        ensures crash { IsTrue D.tells → (records : List (List ℕ)) (payload : List ℕ)
+            → LeavesMidAppend header.now limit records payload (D.since disk (D.moment disk))
+            → LeavesMidAppend header.now limit records payload (D.since (disk_of result) (D.moment disk)) }
+        ensures time { Passes (D.moment disk) (D.moment (disk_of result)) (D.since disk) (D.since (disk_of result)) }
+        ensures cause { IfErr result (λ failed. OpenCause D.tells (D.faults disk) (D.faults failed.1) (listed header.now limit (D.seen disk)) failed.0) }
+        ensures later { D.faults disk ≤ D.faults (disk_of result) }
+    {
+        match prepare(alloc, &mut disk, header, limit) {
+            Ok(gate) => Ok(Journal { disk, gate, limit }),
+            Err(fault) => Err((fault, disk)),
+        }
+    }
+
+    /// Puts the payload of the record at a place into `out`, in place of what is there, and moves the place to the next
+    /// record. It answers false at the end. The first record's place is 16. It takes no memory where `out` has room. An error
+    /// leaves the place.
+    pub fn read_next(
+        &mut self,
+        alloc: Global,
+        place: &mut u64,
+        out: &mut Blob,
+    ) -> Result<bool, JournalFault>
+        requires ready { IsReady D.seen self.old }
+        requires place { place.old ≤ self.old.gate }
+        ensures ready { IsReady D.seen self.new }
+        ensures limit { self.new.limit ≡ self.old.limit }
+        ensures place { place.new ≤ self.new.gate }
+        ensures next { IsTrue D.tells → (header : List ℕ) (read left : List (List ℕ)) → length header ≡ HEADER
+            → Holds D.seen D.moment D.since header (read ++ left) self.old.disk → place.old ≡ place_after read
+            → IfOk result (NextIs read left place.new out.new) }
+        ensures stays { OnErr result (place.new ≡ place.old) }
+        ensures quiet { Quiet D.seen D.moment D.since self.old.disk self.new.disk }
+        ensures cause { IfErr result (ReadCause (D.faults self.old.disk) (D.faults self.new.disk)) }
+        ensures later { D.faults self.old.disk ≤ D.faults self.new.disk }
+    {
+        let left = self.gate - *place;
+        if left < 9 {
+            return Ok(false);
+        }
+        let mut bytes = [0; 8];
+        done(read_whole(&mut self.disk, *place + 1, &mut bytes))?;
+        let size = u64::from_le_bytes(bytes);
+        if size > left - 9 {
+            return Ok(false);
+        }
+        out.clear();
+        read_into(alloc, &mut self.disk, *place + 9, size, out)?;
+        *place += 9 + size;
+        Ok(true)
+    }
+
+    /// Appends a record. It takes no memory. `Full` comes exactly where the file would pass the limit, and changes nothing.
+    /// After `Disk` the file lists the records before or those and the new one, and the journal has to be opened again.
+    pub fn append(&mut self, framed: &RecordBuf) -> Result<(), JournalFault>
+        requires { IsReady D.seen self.old }
+        ensures ready { OnOk result (IsReady D.seen self.new) }
+        ensures limit { self.new.limit ≡ self.old.limit }
+        ensures kept { IsTrue D.tells → OnOk result ((header : List ℕ) (records : List (List ℕ)) → length header ≡ HEADER
+            → Holds D.seen D.moment D.since header records self.old.disk
+            → Holds D.seen D.moment D.since header (records ++ framed.now ∷ []) self.new.disk) }
+        ensures images { IsTrue D.tells → (header : List ℕ) (records : List (List ℕ)) → length header ≡ HEADER
+            → Holds D.seen D.moment D.since header records self.old.disk
+            → LeavesMidAppend header self.old.limit records framed.now (D.since self.new.disk (D.moment self.old.disk)) }
+        ensures time { Passes (D.moment self.old.disk) (D.moment self.new.disk) (D.since self.old.disk) (D.since self.new.disk) }
+        ensures full { self.old.limit < need_for D.seen self.old framed.now
+            → (result ≡ Err (JournalFault.Full (need_for D.seen self.old framed.now) self.old.limit)) × (self.new ≡ self.old) }
+        ensures cause { IfErr result (AppendCause (D.faults self.old.disk) (D.faults self.new.disk) (need_for D.seen self.old framed.now) self.old.limit) }
+        ensures later { D.faults self.old.disk ≤ D.faults self.new.disk }
+    {
+        let need = self.gate + 1 + framed.size();
+        if need > self.limit {
+            return Err(JournalFault::Full {
+                need,
+                limit: self.limit,
+            });
+        }
+        done(self.disk.write_at(self.gate + 1, framed.body()))?;
+        done(self.disk.sync())?;
+        done(self.disk.write_at(self.gate, &[1]))?;
+        done(self.disk.sync())?;
+        self.gate = need - 1;
+        Ok(())
+    }
+
+    /// How long the file is, in bytes.
+    pub fn length(&self) -> u64
+        ensures { result ≡ length (D.seen self.now.disk) }
+    {
+        self.disk.length()
+    }
+
+    /// Gives the disk back.
+    pub fn close(self) -> D
+        ensures { result ≡ self.disk }
+    {
+        let Journal { disk, .. } = self;
+        disk
+    }
+}
