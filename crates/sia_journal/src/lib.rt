@@ -1,5 +1,17 @@
 //! The journal: a list of records in one file, to which records are appended, and that a crash at any moment leaves as the
 //! list before or as that list with the new record.
+//!
+//! What a file lists is a definition on its bytes alone (specs/Listed.antt). Contracts speak of lists of payloads:
+//!
+//! - [`Journal::append`] takes no memory. After it was done every image that a crash may leave lists the new list; after the
+//!   disk failed every image since lists the old list or the new one ([`laws`]). `Full` comes exactly where the file would pass
+//!   the limit, and changes nothing.
+//! - [`Journal::open`] makes a fresh file of one of at most 17 bytes, and repairs the end of a longer one. Where it was done its
+//!   list is that of the file in every image. A crash during it leaves the list that it answers, or the one that differs by the
+//!   last record, whose append had failed before. `Damaged` comes exactly where the file lists nothing but an error.
+//! - [`Journal::read_next`] gives the payloads in order.
+//!
+//! It stands on `sia_edge` for the disk and its model of a crash, and on `sia_encoding` for `Blob` and the spelling of a payload.
 #![tactic(auto)]
 
 mod durable;
