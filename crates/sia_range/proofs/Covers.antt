@@ -1,5 +1,5 @@
 -- Laws of the cover of a set of places.
-use Rattle.std.proofs.Common.{◌≡◌, ℕ, zero, suc, ◌+◌, ◌-◌, ◌*◌, ◌^◌, ◌<◌, ◌≤◌, true, false, List, [], ◌∷◌, ◌++◌, length, refl, sym, ◌∙◌, ap, arith, min, max, length-append, append-nil, append_assoc, suc-add, zero-add}
+use Rattle.std.proofs.Common.{◌≡◌, ℕ, zero, suc, ◌+◌, ◌-◌, ◌*◌, ◌^◌, ◌<◌, ◌≤◌, true, false, List, [], ◌∷◌, ◌++◌, length, refl, sym, ◌∙◌, ap, arith, min, max, length-append, append-nil, append_assoc, suc-add, zero-add, drop, length-drop}
 use native.Mathlib.Nat.{pow-suc}
 use Rattle.std.specs.Prelude.{Bool, not, nat_le, ◌&&◌, ◌||◌, ◌/◌, Result, Ok, Err, OnOk}
 use Rattle.std.specs.List.{range_with_len, list_all}
@@ -199,6 +199,23 @@ cover_both chosen count height lower low is e =
 pub cover_fits : (chosen : ℕ → Bool) (count lower low : ℕ) → low + 2 ^ lower < count
     → length (cover_within chosen count lower low) + length (cover_within chosen count lower (low + 2 ^ lower)) ≤ count - low
 cover_fits chosen count lower low above = omega (arith, cover_bound chosen count lower low, cover_bound chosen count lower (low + 2 ^ lower))
+
+-- a list with an element for each segment of a cover, cut where the left half's end
+pub left_len : {X : Type 0} (chosen : ℕ → Bool) (count height lower low : ℕ) (xs : List X) → height ≡ suc lower → is_covered chosen count height low ≡ false
+    → length xs ≡ length (cover_within chosen count height low) → length (cover_within chosen count lower low) ≤ length xs
+left_len chosen count height lower low xs is e fits =
+    let whole = ap length (cover_both chosen count height lower low is e) in
+    omega (arith, whole, fits, length-append (cover_within chosen count lower low) (cover_within chosen count lower (low + 2 ^ lower)))
+
+pub right_len : {X : Type 0} (chosen : ℕ → Bool) (count height lower low half left : ℕ) (xs right : List X) → height ≡ suc lower → is_covered chosen count height low ≡ false
+    → length xs ≡ length (cover_within chosen count height low) → half ≡ 2 ^ lower → left ≡ length (cover_within chosen count lower low) → right ≡ drop left xs
+    → length right ≡ length (cover_within chosen count lower (low + half))
+right_len chosen count height lower low half left xs right is e fits half_is left_is right_is =
+    let whole = ap length (cover_both chosen count height lower low is e) in
+    let cut = ap length right_is in
+    let rest : length right ≡ length (cover_within chosen count lower (low + 2 ^ lower)) =
+    omega (arith, whole, fits, cut, length-drop left xs, length-append (cover_within chosen count lower low) (cover_within chosen count lower (low + 2 ^ lower))) in
+    rest ∙ ap (λ h. length (cover_within chosen count lower (low + h))) (sym half_is)
 
 -- the roots of two covers behind others
 pub roots_both : (hashes roots : List (List ℕ)) (left right whole : List Segment) → whole ≡ left ++ right

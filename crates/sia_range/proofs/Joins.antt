@@ -38,7 +38,7 @@ pub join_node : (chosen : ℕ → Bool) (count height low : ℕ) (inner : List T
 unfolding joined_within
 join_node chosen count height low inner outer e above = rw (e, lt-leb _ _ above) refl
 
-range_parts : (low first second : ℕ) → range_with_len low (first + second) ≡ range_with_len low first ++ range_with_len (low + first) second
+pub range_parts : (low first second : ℕ) → range_with_len low (first + second) ≡ range_with_len low first ++ range_with_len (low + first) second
 range_parts low zero second =
     let same : low ≡ low + 0 = omega arith in
     rw zero-add (ap (λ n. range_with_len n second) same)

@@ -107,7 +107,7 @@ unfolding hash_of
 leaf_hashes [] = refl
 leaf_hashes (leaf ∷ leaves) = ap (λ xs. leaf_digest leaf ∷ xs) (leaf_hashes leaves)
 
-leaf_trees : (count a b : ℕ) (leaves hashes : List (List ℕ)) → hash_of (range_tree count a b (map Given (map leaf_digest leaves)) hashes) ≡ hash_of (range_tree count a b (map Leaf leaves) hashes)
+pub leaf_trees : (count a b : ℕ) (leaves hashes : List (List ℕ)) → hash_of (range_tree count a b (map Given (map leaf_digest leaves)) hashes) ≡ hash_of (range_tree count a b (map Leaf leaves) hashes)
 unfolding range_tree
 leaf_trees count a b leaves hashes = join_hashes (places_between a b) count count 0 (map Given (map leaf_digest leaves)) (map Leaf leaves) hashes (leaf_hashes leaves)
 

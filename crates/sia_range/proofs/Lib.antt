@@ -1,3 +1,5 @@
 pub mod Covers
 pub mod Joins
 pub mod Judging
+pub mod OwnJoins
+pub mod SegmentJoins

@@ -7,9 +7,11 @@
 //! It promises:
 //! - a proof is made of exactly these roots, and one is accepted exactly where it joins with the range to the root and
 //!   no hash is missing or left over;
+//! - the root after an update of the range is the join with the new leaves in its place, and is given exactly where the
+//!   old roots of the range and those of the rest join to the old root;
 //! - checking takes no memory.
 //!
-//! It stands on sia_merkle for the tree, and on sia_encoding for lists.
+//! It stands on sia_merkle for the tree, on sia_encoding for lists, and on sia_types for the proof of an update.
 #![tactic(auto)]
 
 mod check;
@@ -17,9 +19,11 @@ mod cover;
 mod leaf_nodes;
 mod places;
 mod prove;
+mod update;
 
 pub use check::{check_nodes, check_range};
-pub use prove::{prove_nodes, prove_range};
+pub use prove::{prove_nodes, prove_range, prove_update};
+pub use update::root_after_update;
 
 #[cfg(test)]
 mod tests;

@@ -2,6 +2,7 @@
 ghost use Rattle.std.specs.Prelude.{◌≡◌, ◌<◌, ◌≤◌, IfOk, length, map};
 ghost use Rattle.sia_merkle.specs.Roots.{leaf_count, leaf_digest, leaves_of};
 ghost use Rattle.sia_merkle.specs.Segments.{cover, others, places_between, segment_roots};
+ghost use Rattle.sia_range.specs.Ranges.{places_on};
 
 use crate::check::HEIGHT;
 use crate::cover::append_cover;
@@ -10,6 +11,7 @@ use crate::places::{Places, Side};
 use sia_blake::Hash;
 use sia_encoding::List;
 use sia_merkle::Nodes;
+use sia_types::UpdateProof;
 use std::alloc::{AllocError, Global};
 
 /// The proof of the leaves at the places from `a` to `b` of a byte string: the roots of the largest subtrees that cover
@@ -33,12 +35,41 @@ pub fn prove_nodes<N: Nodes>(
     requires within { b ≤ length (N.hashes nodes.now) }
     ensures { IfOk result (λ hashes. hashes ≡ segment_roots (N.hashes nodes.now) (cover (others (places_between a b)) (length (N.hashes nodes.now)))) }
 {
+    cover_roots(alloc, nodes, a, b, Side::Outside)
+}
+
+/// The proof of an update of the leaves at the places from `a` to `b` of a byte string: the roots of the largest subtrees
+/// that cover these places, and those of the subtrees that cover all others. Its error is want of memory.
+pub fn prove_update(alloc: Global, bytes: &[u8], a: u64, b: u64) -> Result<UpdateProof, AllocError>
+    requires some { a < b }
+    requires within { b ≤ leaf_count (length bytes.now) }
+    ensures inner { IfOk result (λ proof. proof.inner ≡ segment_roots (map leaf_digest (leaves_of bytes.now)) (cover (places_between a b) (leaf_count (length bytes.now)))) }
+    ensures outer { IfOk result (λ proof. proof.outer ≡ segment_roots (map leaf_digest (leaves_of bytes.now)) (cover (others (places_between a b)) (leaf_count (length bytes.now)))) }
+{
+    let nodes = LeafNodes { bytes };
+    let inner = cover_roots(alloc, &nodes, a, b, Side::Inside)?;
+    let outer = cover_roots(alloc, &nodes, a, b, Side::Outside)?;
+    Ok(UpdateProof { inner, outer })
+}
+
+/// The roots of the cover of one side of a range.
+fn cover_roots<N: Nodes>(
+    alloc: Global,
+    nodes: &N,
+    a: u64,
+    b: u64,
+    side: Side,
+) -> Result<List<Hash>, AllocError>
+    requires some { a < b }
+    requires within { b ≤ length (N.hashes nodes.now) }
+    ensures { IfOk result (λ hashes. hashes ≡ segment_roots (N.hashes nodes.now) (cover (places_on side a b) (length (N.hashes nodes.now)))) }
+{
     let places = Places {
         count: nodes.count(),
         start: a,
         end: b,
     };
     let mut roots = List::new(alloc);
-    append_cover(&mut roots, nodes, places, Side::Outside, HEIGHT, 0)?;
+    append_cover(&mut roots, nodes, places, side, HEIGHT, 0)?;
     Ok(roots)
 }

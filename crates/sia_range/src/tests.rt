@@ -13,6 +13,13 @@ fn message() -> [u8; 400] {
     bytes
 }
 
+/// The same with each byte of the second and third leaf 9.
+fn changed() -> [u8; 400] {
+    let mut bytes = message();
+    bytes[64..192].fill(9);
+    bytes
+}
+
 /// The roots over the places 0, 3, 4 with 5, and 6.
 fn cover(message: &[u8; 400]) -> [Hash; 4] {
     [
@@ -67,5 +74,21 @@ fn hashes_are_proved_as_leaves_are(rt: HostRuntime) -> Result<(), Fail> {
     assert!(rt; proof.as_slice() == &[node_root(&hashes[..2])][..]);
     assert!(rt; check_nodes(&whole, 5, 2, 5, &hashes[2..], proof.as_slice()).is_some());
     assert!(rt; check_nodes(&whole, 5, 1, 4, &hashes[2..], proof.as_slice()).is_none());
+    Ok(())
+}
+
+#[test]
+fn an_update_gives_the_root_of_the_changed_leaves(rt: HostRuntime) -> Result<(), Fail> {
+    let before = message();
+    let old = root(&before);
+    let after = changed();
+    let proof = prove_update(rt.alloc(), &before, 1, 3)?;
+    assert!(rt;
+        proof.inner.as_slice() == &[leaf_hash(&before[64..128]), leaf_hash(&before[128..192])][..]
+    );
+    assert!(rt; proof.outer.as_slice() == &cover(&before)[..]);
+    assert!(rt; root_after_update(&old, 7, 1, 3, &proof, &[9; 128]) == Some(root(&after)));
+    assert!(rt; root_after_update(&root(&after), 7, 1, 3, &proof, &[9; 128]).is_none());
+    assert!(rt; root_after_update(&old, 7, 2, 4, &proof, &[9; 128]).is_none());
     Ok(())
 }
