@@ -1,0 +1,6 @@
+//! Proofs of a diff: from the root over a list of hashes to the root over the list after some steps (RHP2).
+#![tactic(auto)]
+
+mod steps;
+
+pub use steps::DiffStep;
