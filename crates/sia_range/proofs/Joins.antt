@@ -56,6 +56,14 @@ count_cons chosen place places =
     let one : 0 + cond (chosen place) 1 0 ≡ cond (chosen place) 1 0 = omega arith in
     sum_by-append (λ x. cond (chosen x) 1 0) (place ∷ []) places ∙ ap (λ n. n + count_by chosen places) one
 
+none_by : (chosen : ℕ → Bool) (low width : ℕ) → chosen low ≡ false → count_by chosen (range_with_len (low + 1) width) ≡ 0 → count_by chosen (range_with_len low (suc width)) ≡ 0
+none_by chosen low width e rest = count_cons chosen low (range_with_len (low + 1) width) ∙ rw (e, rest) (omega arith)
+
+-- counting where no place is chosen
+pub count_none : (chosen : ℕ → Bool) (low width : ℕ) → ((place : ℕ) → low ≤ place → place < low + width → chosen place ≡ false) → count_by chosen (range_with_len low width) ≡ 0
+count_none chosen low zero each = refl
+count_none chosen low (suc width) each = none_by chosen low width (each low (omega arith) (omega arith)) (count_none chosen (low + 1) width (λ place from to. each place (omega arith) (omega arith)))
+
 between_by : (a b low width : ℕ) → count_by (places_between a b) (range_with_len (low + 1) width) ≡ (min (low + 1 + width) b - (low + 1)) - (a - (low + 1))
     → (from before : Bool) → nat_le a low ≡ from → nat_lt low b ≡ before
     → count_by (places_between a b) (range_with_len low (suc width)) ≡ (min (low + suc width) b - low) - (a - low)
@@ -82,12 +90,12 @@ inner_behind a b count height low inner fits some above =
     ∙ drop_same ((low - a) + ((min (low + 2 ^ height) b - low) - (a - low))) (low + 2 ^ height - a) inner (omega arith)
 
 -- only the trees at a segment's own places show in its join
-places_one : (chosen : ℕ → Bool) (count low : ℕ) → low < count → chosen low ≡ true → places_within chosen count 0 low ≡ 1
+pub places_one : (chosen : ℕ → Bool) (count low : ℕ) → low < count → chosen low ≡ true → places_within chosen count 0 low ≡ 1
 places_one chosen count low within e =
     let one : min (2 ^ 0) (count - low) ≡ 1 = omega arith in
     ap (λ n. count_by chosen (range_with_len low n)) one ∙ rw e refl
 
-places_low : (chosen : ℕ → Bool) (count height low : ℕ) → count ≤ low + 2 ^ height → places_within chosen count height low ≡ places_within chosen count (suc height) low
+pub places_low : (chosen : ℕ → Bool) (count height low : ℕ) → count ≤ low + 2 ^ height → places_within chosen count height low ≡ places_within chosen count (suc height) low
 places_low chosen count height low fits =
     let same : min (2 ^ height) (count - low) ≡ min (2 ^ suc height) (count - low) = omega (arith, pow-suc 2 height) in
     ap (λ n. count_by chosen (range_with_len low n)) same

@@ -3,3 +3,4 @@ pub mod Joins
 pub mod Judging
 pub mod OwnJoins
 pub mod SegmentJoins
+pub mod Soundness
