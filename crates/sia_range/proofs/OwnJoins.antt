@@ -24,7 +24,7 @@ filter_by : (chosen : ℕ → Bool) (x : ℕ) (xs ys : List ℕ) → filter chos
 filter_by chosen x xs ys rest true e = rw e (ap (λ zs. x ∷ zs) rest)
 filter_by chosen x xs ys rest false e = rw e rest
 
-filter_append : (chosen : ℕ → Bool) (xs ys : List ℕ) → filter chosen (xs ++ ys) ≡ filter chosen xs ++ filter chosen ys
+pub filter_append : (chosen : ℕ → Bool) (xs ys : List ℕ) → filter chosen (xs ++ ys) ≡ filter chosen xs ++ filter chosen ys
 filter_append chosen [] ys = refl
 filter_append chosen (x ∷ xs) ys = filter_by chosen x xs ys (filter_append chosen xs ys) (chosen x) refl
 
@@ -58,7 +58,7 @@ first_at : (hashes : List (List ℕ)) (low : ℕ) → low < length hashes → tr
 unfolding tree_root
 first_at hashes low within = ap (λ xs. first_hash (take 1 xs)) (drop_more hashes low [] within)
 
-mul_div : (index width : ℕ) → 0 < width → index * width / width ≡ index
+pub mul_div : (index width : ℕ) → 0 < width → index * width / width ≡ index
 mul_div index width some =
     let same : index * width ≡ index * width + 0 = omega arith in
     ap (λ n. n / width) same ∙ div-mul-add index width 0 some
