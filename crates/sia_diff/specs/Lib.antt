@@ -1,2 +1,3 @@
 pub mod Diffs
+pub mod Marks
 pub mod Steps

@@ -1,5 +1,10 @@
 //! The steps of a diff.
+ghost use Rattle.std.specs.Prelude.{◌≡◌, ◌≤◌, IsTrue};
+
 use sia_blake::Hash;
+
+/// How many hashes a list may have.
+pub(crate) const MAX_COUNT: u64 = 65_536;
 
 /// A step on a list of hashes. The steps of a diff are done in order, and places count from 0.
 #[derive(Clone, Copy)]
@@ -12,4 +17,34 @@ pub enum DiffStep {
     Swap(u64, u64),
     /// Puts a hash in the place of the one at a place.
     Set(u64, Hash),
+}
+
+impl DiffStep {
+    ghost use Rattle.sia_diff.specs.Steps.{count_after_step, step_fits};
+
+    /// Whether the step can be done on a list of so many hashes.
+    pub(crate) fn fits(&self, count: u64) -> bool
+        ensures { result ≡ step_fits count self.now }
+    {
+        match self {
+            DiffStep::Append(_) => count < MAX_COUNT,
+            DiffStep::Trim(fewer) => *fewer <= count,
+            DiffStep::Swap(i, j) => *i < count && *j < count,
+            DiffStep::Set(i, _) => *i < count,
+        }
+    }
+
+    /// How many hashes there are after the step.
+    pub(crate) fn count_after(&self, count: u64) -> u64
+        requires count { count ≤ 65536 }
+        requires fits { IsTrue (step_fits count self.now) }
+        ensures count { result ≡ count_after_step count self.now }
+        ensures bound { result ≤ 65536 }
+    {
+        match self {
+            DiffStep::Append(_) => count + 1,
+            DiffStep::Trim(fewer) => count - *fewer,
+            DiffStep::Swap(_, _) | DiffStep::Set(_, _) => count,
+        }
+    }
 }
