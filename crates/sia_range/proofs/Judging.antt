@@ -34,11 +34,11 @@ range_tree_at count a b inner outer some within fits =
     let none : 0 ≡ 0 - a = omega arith in
     join_at (places_between a b) count 64 inner outer (omega arith) (omega arith) ∙ ap (λ n. joined_within (places_between a b) count 64 0 (drop n inner) outer) none
 
-joined_is : (count a b : ℕ) (inner : List Tree) (outer : List (List ℕ)) → range_tree count a b inner outer ≡ joined_within (places_between a b) count count 0 inner outer
+pub joined_is : (count a b : ℕ) (inner : List Tree) (outer : List (List ℕ)) → range_tree count a b inner outer ≡ joined_within (places_between a b) count count 0 inner outer
 unfolding range_tree
 joined_is count a b inner outer = refl
 
-inner_count : (count a b : ℕ) (inner : List Tree) → a < b → b ≤ count → length inner ≡ b - a → length inner ≡ count_by (places_between a b) (range_with_len 0 count)
+pub inner_count : (count a b : ℕ) (inner : List Tree) → a < b → b ≤ count → length inner ≡ b - a → length inner ≡ count_by (places_between a b) (range_with_len 0 count)
 inner_count count a b inner some within fits = fits ∙ sym (count_between a b 0 count ∙ (omega arith))
 
 pub judged : (root found : List ℕ) (count a b : ℕ) (inner : List Tree) (outer : List (List ℕ)) (answer : Bool) → a < b → b ≤ count → count < 2 ^ 64 → length inner ≡ b - a

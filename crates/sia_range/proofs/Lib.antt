@@ -2,7 +2,10 @@ pub mod Covers
 pub mod Joins
 pub mod Judging
 pub mod OwnJoins
+pub mod OwnSegments
 pub mod OwnWholes
+pub mod RangeSoundness
 pub mod SameCovers
 pub mod SegmentJoins
+pub mod SegmentSoundness
 pub mod Soundness

@@ -58,10 +58,44 @@ first_at : (hashes : List (List ℕ)) (low : ℕ) → low < length hashes → tr
 unfolding tree_root
 first_at hashes low within = ap (λ xs. first_hash (take 1 xs)) (drop_more hashes low [] within)
 
-pub mul_div : (index width : ℕ) → 0 < width → index * width / width ≡ index
+mul_div : (index width : ℕ) → 0 < width → index * width / width ≡ index
 mul_div index width some =
     let same : index * width ≡ index * width + 0 = omega arith in
     ap (λ n. n / width) same ∙ div-mul-add index width 0 some
+
+-- the root over the places from low on, by its two parts
+pub root_low : (hashes : List (List ℕ)) (height low : ℕ) → length hashes ≤ low + 2 ^ height → tree_root (suc height) (take (2 ^ suc height) (drop low hashes)) ≡ tree_root height (take (2 ^ height) (drop low hashes))
+root_low hashes height low past =
+    let up : 2 ^ suc height ≡ 2 ^ height * 2 = pow-suc 2 height in
+    let rest : length (drop low hashes) ≤ 2 ^ height = omega (arith, length-drop low hashes) in
+    let rest_wide : length (drop low hashes) ≤ 2 ^ suc height = omega arith in
+    let same : take (2 ^ suc height) (drop low hashes) ≡ take (2 ^ height) (drop low hashes) = take_all (2 ^ suc height) (drop low hashes) rest_wide ∙ sym (take_all (2 ^ height) (drop low hashes) rest) in
+    let fits : length (take (2 ^ height) (drop low hashes)) ≤ 2 ^ height = omega (arith, length-take (2 ^ height) (drop low hashes)) in
+    ap (tree_root (suc height)) same ∙ tree_root-low height (take (2 ^ height) (drop low hashes)) fits
+
+pub root_node : (hashes : List (List ℕ)) (height low : ℕ) → low + 2 ^ height < length hashes
+    → tree_root (suc height) (take (2 ^ suc height) (drop low hashes)) ≡ node_digest (tree_root height (take (2 ^ height) (drop low hashes))) (tree_root height (take (2 ^ height) (drop (low + 2 ^ height) hashes)))
+root_node hashes height low above =
+    let up : 2 ^ suc height ≡ 2 ^ height * 2 = pow-suc 2 height in
+    let long : 2 ^ height < length (take (2 ^ suc height) (drop low hashes)) = omega (arith, length-take (2 ^ suc height) (drop low hashes), length-drop low hashes, power_above height) in
+    let first : take (2 ^ height) (take (2 ^ suc height) (drop low hashes)) ≡ take (2 ^ height) (drop low hashes) = take-take (2 ^ height) (2 ^ suc height) (drop low hashes) (omega arith) in
+    let left_over : 2 ^ suc height - 2 ^ height ≡ 2 ^ height = omega arith in
+    let second : drop (2 ^ height) (take (2 ^ suc height) (drop low hashes)) ≡ take (2 ^ height) (drop (low + 2 ^ height) hashes) =
+    drop_taken (2 ^ height) (2 ^ suc height) (drop low hashes) (omega arith) ∙ ap (λ n. take n (drop (2 ^ height) (drop low hashes))) left_over ∙ ap (take (2 ^ height)) (drop-drop (2 ^ height) low hashes) in
+    tree_root-split height (take (2 ^ suc height) (drop low hashes)) long ∙ ap (λ xs. node_digest (tree_root height xs) (tree_root height (drop (2 ^ height) (take (2 ^ suc height) (drop low hashes))))) first
+    ∙ ap (λ xs. node_digest (tree_root height (take (2 ^ height) (drop low hashes))) (tree_root height xs)) second
+
+-- the root of a segment that is given by its first place
+pub root_at : (hashes : List (List ℕ)) (height low index : ℕ) → low ≡ index * 2 ^ height → segment_root hashes height (low / 2 ^ height) ≡ tree_root height (take (2 ^ height) (drop low hashes))
+root_at hashes height low index aligned =
+    let back : low / 2 ^ height * 2 ^ height ≡ low = ap (λ n. n / 2 ^ height * 2 ^ height) aligned ∙ ap (λ n. n * 2 ^ height) (mul_div index (2 ^ height) (power_above height)) ∙ sym aligned in
+    ap (λ n. tree_root height (take (2 ^ height) (drop n hashes))) back
+
+-- the roots of a cover, by its two parts
+pub roots_parts : (chosen : ℕ → Bool) (count height low : ℕ) (hashes : List (List ℕ)) → is_covered chosen count (suc height) low ≡ false
+    → segment_roots hashes (cover_within chosen count (suc height) low) ≡ segment_roots hashes (cover_within chosen count height low) ++ segment_roots hashes (cover_within chosen count height (low + 2 ^ height))
+roots_parts chosen count height low hashes e =
+    ap (segment_roots hashes) (cover_parts chosen count height low e) ∙ map-append (λ segment. segment_root hashes segment.level segment.index) (cover_within chosen count height low) (cover_within chosen count height (low + 2 ^ height))
 
 own_end : (chosen : ℕ → Bool) (hashes : List (List ℕ)) (low : ℕ) → low < length hashes → (covered : Bool) → is_covered (others chosen) (length hashes) 0 low ≡ covered
     → hash_of (joined_within chosen (length hashes) 0 low (own_within chosen hashes 0 low) (segment_roots hashes (cover_within (others chosen) (length hashes) 0 low))) ≡ tree_root 0 (take (2 ^ 0) (drop low hashes))
@@ -82,24 +116,19 @@ own_by : (chosen : ℕ → Bool) (hashes : List (List ℕ)) (height low index : 
     → hash_of (joined_within chosen (length hashes) (suc height) low (own_within chosen hashes (suc height) low) (segment_roots hashes (cover_within (others chosen) (length hashes) (suc height) low)))
     ≡ tree_root (suc height) (take (2 ^ suc height) (drop low hashes))
 own_by chosen hashes height low index aligned within below true e short f =
-    let back : low / 2 ^ suc height * 2 ^ suc height ≡ low = ap (λ n. n / 2 ^ suc height * 2 ^ suc height) aligned ∙ ap (λ n. n * 2 ^ suc height) (mul_div index (2 ^ suc height) (power_above (suc height))) ∙ sym aligned in
     ap hash_of (join_given chosen (length hashes) (suc height) low (own_within chosen hashes (suc height) low) (segment_roots hashes (cover_within (others chosen) (length hashes) (suc height) low)) e)
     ∙ ap (λ cover. hash_of (Given (first_hash (segment_roots hashes cover)))) (cover_one (others chosen) (length hashes) (suc height) low e)
-    ∙ hash_given (segment_root hashes (suc height) (low / 2 ^ suc height)) ∙ ap (λ n. tree_root (suc height) (take (2 ^ suc height) (drop n hashes))) back
+    ∙ hash_given (segment_root hashes (suc height) (low / 2 ^ suc height)) ∙ root_at hashes (suc height) low index aligned
 own_by chosen hashes height low index aligned within below false e true f =
     let past : length hashes ≤ low + 2 ^ height = leb-true _ _ f in
     let up : 2 ^ suc height ≡ 2 ^ height * 2 = pow-suc 2 height in
     let turned : index * (2 ^ height * 2) ≡ index * 2 * 2 ^ height = omega arith in
     let part : low ≡ index * 2 * 2 ^ height = aligned ∙ ap (λ n. index * n) up ∙ turned in
-    let rest : length (drop low hashes) ≤ 2 ^ height = omega (arith, length-drop low hashes) in
-    let rest_wide : length (drop low hashes) ≤ 2 ^ suc height = omega arith in
-    let same : take (2 ^ suc height) (drop low hashes) ≡ take (2 ^ height) (drop low hashes) = take_all (2 ^ suc height) (drop low hashes) rest_wide ∙ sym (take_all (2 ^ height) (drop low hashes) rest) in
-    let fits : length (take (2 ^ height) (drop low hashes)) ≤ 2 ^ height = omega (arith, length-take (2 ^ height) (drop low hashes)) in
     ap hash_of (join_low chosen (length hashes) height low (own_within chosen hashes (suc height) low) (segment_roots hashes (cover_within (others chosen) (length hashes) (suc height) low)) e past)
     ∙ ap (λ trees. hash_of (joined_within chosen (length hashes) height low trees (segment_roots hashes (cover_within (others chosen) (length hashes) (suc height) low)))) (own_low chosen hashes height low past)
     ∙ ap (λ cover. hash_of (joined_within chosen (length hashes) height low (own_within chosen hashes height low) (segment_roots hashes cover))) (cover_left (others chosen) (length hashes) height low past within e)
     ∙ below low (index * 2) part within
-    ∙ sym (ap (tree_root (suc height)) same ∙ tree_root-low height (take (2 ^ height) (drop low hashes)) fits)
+    ∙ sym (root_low hashes height low past)
 own_by chosen hashes height low index aligned within below false e false f =
     let above : low + 2 ^ height < length hashes = leb-false _ _ f in
     let up : 2 ^ suc height ≡ 2 ^ height * 2 = pow-suc 2 height in
@@ -108,17 +137,10 @@ own_by chosen hashes height low index aligned within below false e false f =
     let next : low + 2 ^ height ≡ (index * 2 + 1) * 2 ^ height = omega arith in
     let left_cover = cover_within (others chosen) (length hashes) height low in
     let right_cover = cover_within (others chosen) (length hashes) height (low + 2 ^ height) in
-    let roots : segment_roots hashes (cover_within (others chosen) (length hashes) (suc height) low) ≡ segment_roots hashes left_cover ++ segment_roots hashes right_cover =
-    ap (segment_roots hashes) (cover_parts (others chosen) (length hashes) height low e) ∙ map-append (λ segment. segment_root hashes segment.level segment.index) left_cover right_cover in
     let cut : length (segment_roots hashes left_cover) ≡ length left_cover = length-map left_cover (λ segment. segment_root hashes segment.level segment.index) in
     let counted = own_count chosen hashes height low in
-    let long : 2 ^ height < length (take (2 ^ suc height) (drop low hashes)) = omega (arith, length-take (2 ^ suc height) (drop low hashes), length-drop low hashes, power_above height) in
-    let first : take (2 ^ height) (take (2 ^ suc height) (drop low hashes)) ≡ take (2 ^ height) (drop low hashes) = take-take (2 ^ height) (2 ^ suc height) (drop low hashes) (omega arith) in
-    let left_over : 2 ^ suc height - 2 ^ height ≡ 2 ^ height = omega arith in
-    let second : drop (2 ^ height) (take (2 ^ suc height) (drop low hashes)) ≡ take (2 ^ height) (drop (low + 2 ^ height) hashes) =
-    drop_taken (2 ^ height) (2 ^ suc height) (drop low hashes) (omega arith) ∙ ap (λ n. take n (drop (2 ^ height) (drop low hashes))) left_over ∙ ap (take (2 ^ height)) (drop-drop (2 ^ height) low hashes) in
     ap (λ trees. hash_of (joined_within chosen (length hashes) (suc height) low trees (segment_roots hashes (cover_within (others chosen) (length hashes) (suc height) low)))) (own_parts chosen hashes height low above)
-    ∙ ap (λ outer. hash_of (joined_within chosen (length hashes) (suc height) low (own_within chosen hashes height low ++ own_within chosen hashes height (low + 2 ^ height)) outer)) roots
+    ∙ ap (λ outer. hash_of (joined_within chosen (length hashes) (suc height) low (own_within chosen hashes height low ++ own_within chosen hashes height (low + 2 ^ height)) outer)) (roots_parts (others chosen) (length hashes) height low hashes e)
     ∙ ap hash_of (join_node chosen (length hashes) height low (own_within chosen hashes height low ++ own_within chosen hashes height (low + 2 ^ height)) (segment_roots hashes left_cover ++ segment_roots hashes right_cover) e above)
     ∙ rw (
       take_at (own_within chosen hashes height low) (own_within chosen hashes height (low + 2 ^ height)) (places_within chosen (length hashes) height low) counted,
@@ -130,8 +152,7 @@ own_by chosen hashes height low index aligned within below false e false f =
     (joined_within chosen (length hashes) height (low + 2 ^ height) (own_within chosen hashes height (low + 2 ^ height)) (segment_roots hashes right_cover))
     ∙ ap (λ hash. node_digest hash (hash_of (joined_within chosen (length hashes) height (low + 2 ^ height) (own_within chosen hashes height (low + 2 ^ height)) (segment_roots hashes right_cover)))) (below low (index * 2) part within)
     ∙ ap (node_digest (tree_root height (take (2 ^ height) (drop low hashes)))) (below (low + 2 ^ height) (index * 2 + 1) next above)
-    ∙ sym (tree_root-split height (take (2 ^ suc height) (drop low hashes)) long ∙ ap (λ xs. node_digest (tree_root height xs) (tree_root height (drop (2 ^ height) (take (2 ^ suc height) (drop low hashes))))) first
-    ∙ ap (λ xs. node_digest (tree_root height (take (2 ^ height) (drop low hashes))) (tree_root height xs)) second))
+    ∙ sym (root_node hashes height low above))
 
 -- the join of a list's own hashes at any places with the roots of the cover of all others
 pub own_join : (chosen : ℕ → Bool) (hashes : List (List ℕ)) (height low index : ℕ) → low ≡ index * 2 ^ height → low < length hashes

@@ -9,7 +9,7 @@ use Rattle.sia_merkle.specs.Roots.{tree_root}
 use Rattle.sia_merkle.specs.Segments.{Segment, cover, cover_within, is_covered, segment_root, segment_roots}
 use Rattle.sia_merkle.proofs.Trees.{lt_pow, pow_up}
 use Rattle.sia_range.proofs.Covers.{power_above, cover_at, cover_none, cover_one, cover_parts, cover_past, covered_all, covered_at, covered_within}
-use Rattle.sia_range.proofs.OwnJoins.{mul_div}
+use Rattle.sia_range.proofs.OwnJoins.{root_at, roots_parts}
 use Rattle.sia_range.proofs.OwnWholes.{neighbours}
 
 -- each chosen place is there in a list of so many hashes
@@ -76,21 +76,15 @@ same_map f g from (suc count) each =
 segment_same : (chosen : ℕ → Bool) (count height low index : ℕ) (hashes other : List (List ℕ)) → low ≡ index * 2 ^ height → count ≤ length hashes → count ≤ length other → AgreeAt chosen count hashes other
     → is_covered chosen count height low ≡ true → segment_root hashes height (low / 2 ^ height) ≡ segment_root other height (low / 2 ^ height)
 segment_same chosen count height low index hashes other aligned fits fits' agree e =
-    let back : low / 2 ^ height * 2 ^ height ≡ low = ap (λ n. n / 2 ^ height * 2 ^ height) aligned ∙ ap (λ n. n * 2 ^ height) (mul_div index (2 ^ height) (power_above height)) ∙ sym aligned in
     let top : low + 2 ^ height ≤ count = covered_within chosen count height low e in
-    ap (λ n. tree_root height (take (2 ^ height) (drop n hashes))) back
+    root_at hashes height low index aligned
     ∙ ap (tree_root height) (sym (neighbours hashes low (2 ^ height) (omega arith))
     ∙ same_map (λ place. get_or hashes place []) (λ place. get_or other place []) low (2 ^ height) (λ place from to. agree place (omega arith) (covered_at chosen count height low place e from to))
     ∙ neighbours other low (2 ^ height) (omega arith))
-    ∙ sym (ap (λ n. tree_root height (take (2 ^ height) (drop n other))) back)
+    ∙ sym (root_at other height low index aligned)
 
 roots_one : (chosen : ℕ → Bool) (count height low : ℕ) (hashes : List (List ℕ)) → is_covered chosen count height low ≡ true → segment_roots hashes (cover_within chosen count height low) ≡ segment_root hashes height (low / 2 ^ height) ∷ []
 roots_one chosen count height low hashes e = ap (segment_roots hashes) (cover_one chosen count height low e)
-
-pub roots_parts : (chosen : ℕ → Bool) (count height low : ℕ) (hashes : List (List ℕ)) → is_covered chosen count (suc height) low ≡ false
-    → segment_roots hashes (cover_within chosen count (suc height) low) ≡ segment_roots hashes (cover_within chosen count height low) ++ segment_roots hashes (cover_within chosen count height (low + 2 ^ height))
-roots_parts chosen count height low hashes e =
-    ap (segment_roots hashes) (cover_parts chosen count height low e) ∙ map-append (λ segment. segment_root hashes segment.level segment.index) (cover_within chosen count height low) (cover_within chosen count height (low + 2 ^ height))
 
 roots_covered : (chosen : ℕ → Bool) (count height low index : ℕ) (hashes other : List (List ℕ)) → low ≡ index * 2 ^ height → count ≤ length hashes → count ≤ length other → AgreeAt chosen count hashes other
     → is_covered chosen count height low ≡ true → segment_roots hashes (cover_within chosen count height low) ≡ segment_roots other (cover_within chosen count height low)

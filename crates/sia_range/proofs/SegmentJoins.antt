@@ -92,7 +92,7 @@ segments_both chosen count height lower low inner outer inner_left inner_right o
 pub inside_count : (count a b : ℕ) → a < b → b ≤ count → count < 2 ^ 64 → length (cover (places_between a b) count) ≡ length (cover_within (places_between a b) count 64 0)
 inside_count count a b some within fits = ap length (cover_at (places_between a b) count 64 (omega arith) (omega arith))
 
-segments_tree_is : (count a b : ℕ) (inner outer : List (List ℕ)) → segments_tree count a b inner outer ≡ joined_segments_within (places_between a b) count count 0 inner outer
+pub segments_tree_is : (count a b : ℕ) (inner outer : List (List ℕ)) → segments_tree count a b inner outer ≡ joined_segments_within (places_between a b) count count 0 inner outer
 unfolding segments_tree
 segments_tree_is count a b inner outer = refl
 

@@ -177,7 +177,8 @@ fits_low chosen count height low inner outer within e past fits = record {
   segments = fits.segments ∙ ap length (cover_left (others chosen) count height low past within e);
 }
 
-both_covers : (chosen : ℕ → Bool) (count height low : ℕ) → is_covered chosen count (suc height) low ≡ false
+-- the segments of a cover are those of its two parts
+pub both_covers : (chosen : ℕ → Bool) (count height low : ℕ) → is_covered chosen count (suc height) low ≡ false
     → length (cover_within chosen count (suc height) low) ≡ length (cover_within chosen count height low) + length (cover_within chosen count height (low + 2 ^ height))
 both_covers chosen count height low e = ap length (cover_parts chosen count height low e) ∙ length-append (cover_within chosen count height low) (cover_within chosen count height (low + 2 ^ height))
 

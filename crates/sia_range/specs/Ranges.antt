@@ -1,8 +1,10 @@
 -- Proofs of a range of places under the root of a tree: what stands at the places, and the roots of the largest subtrees
 -- that cover all other places (RHP2; `merkletree.BuildRangeProof` of Sia's Go library).
-use Rattle.std.specs.Prelude.{ℕ, ◌≡◌, Bool, List}
+use Rattle.std.specs.Prelude.{ℕ, ◌-◌, ◌≡◌, Bool, List, ◌++◌, length, map, take, drop}
 use Rattle.sia_merkle.specs.Computations.{Tree, hash_of}
-use Rattle.sia_merkle.specs.Segments.{others, places_between, joined_within, joined_segments_within, Joins, JoinsSegments}
+use Rattle.sia_merkle.specs.Computations.Tree.{Given, Leaf}
+use Rattle.sia_merkle.specs.Roots.{leaf_count, leaf_digest, leaves_of}
+use Rattle.sia_merkle.specs.Segments.{cover, others, places_between, joined_within, joined_segments_within, segment_roots, Joins, JoinsSegments}
 use Rattle.sia_range.specs.declared.places.Side.{Side}
 use Rattle.sia_range.specs.declared.places.Side.TheVariants as side
 
@@ -32,3 +34,32 @@ segments_tree count a b inner outer = joined_segments_within (places_between a b
 pub record IsUpdateOf (root : List ℕ) (count a b : ℕ) (inner outer : List (List ℕ)) : Type 0 where
   pub joins : JoinsSegments (places_between a b) count inner outer (segments_tree count a b inner outer)
   pub gives : hash_of (segments_tree count a b inner outer) ≡ root
+
+-- what a list has at the places from a to b
+abbrev pub part_between : {X : Type 0} → ℕ → ℕ → List X → List X
+part_between a b list = take (b - a) (drop a list)
+
+-- the list with a part in the place of what stands from a to b
+abbrev pub replaced : {X : Type 0} → ℕ → ℕ → List X → List X → List X
+replaced a b part list = take a list ++ (part ++ drop b list)
+
+-- the roots of the cover of the places from a to b of so many hashes, and those of the cover of all others
+abbrev pub roots_inside : List (List ℕ) → ℕ → ℕ → ℕ → List (List ℕ)
+roots_inside hashes count a b = segment_roots hashes (cover (places_between a b) count)
+
+abbrev pub roots_outside : List (List ℕ) → ℕ → ℕ → ℕ → List (List ℕ)
+roots_outside hashes count a b = segment_roots hashes (cover (others (places_between a b)) count)
+
+-- the computation of a byte string's root from its own leaves at the places from a to b, and its own proof of them
+abbrev pub own_range_tree : List ℕ → ℕ → ℕ → Tree
+own_range_tree bytes a b =
+    range_tree (leaf_count (length bytes)) a b (map Leaf (part_between a b (leaves_of bytes))) (roots_outside (map leaf_digest (leaves_of bytes)) (leaf_count (length bytes)) a b)
+
+-- the same of a list of hashes
+abbrev pub own_nodes_tree : List (List ℕ) → ℕ → ℕ → Tree
+own_nodes_tree hashes a b = range_tree (length hashes) a b (map Given (part_between a b hashes)) (roots_outside hashes (length hashes) a b)
+
+-- the computation of a byte string's root from the roots of both covers
+abbrev pub own_update_tree : List ℕ → ℕ → ℕ → Tree
+own_update_tree bytes a b =
+    segments_tree (leaf_count (length bytes)) a b (roots_inside (map leaf_digest (leaves_of bytes)) (leaf_count (length bytes)) a b) (roots_outside (map leaf_digest (leaves_of bytes)) (leaf_count (length bytes)) a b)

@@ -16,12 +16,14 @@
 
 mod check;
 mod cover;
+mod laws;
 mod leaf_nodes;
 mod places;
 mod prove;
 mod update;
 
 pub use check::{check_nodes, check_range};
+pub use laws::{another_range_collides, other_nodes_collide};
 pub use prove::{prove_nodes, prove_range, prove_update};
 pub use update::root_after_update;
 
