@@ -9,3 +9,4 @@ pub mod SameCovers
 pub mod SegmentJoins
 pub mod SegmentSoundness
 pub mod Soundness
+pub mod UpdateSoundness

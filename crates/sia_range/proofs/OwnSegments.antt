@@ -1,5 +1,5 @@
 -- What the roots of both covers of a list's own places join to: the list's root.
-use Rattle.std.proofs.Common.{◌≡◌, ℕ, zero, suc, ◌+◌, ◌*◌, ◌^◌, ◌<◌, ◌≤◌, true, false, List, [], ◌∷◌, ◌++◌, length, take, drop, refl, sym, ◌∙◌, ap, arith}
+use Rattle.std.proofs.Common.{◌≡◌, ℕ, zero, suc, ◌+◌, ◌*◌, ◌^◌, ◌<◌, ◌≤◌, true, false, List, ◌++◌, length, take, drop, refl, sym, ◌∙◌, ap, arith}
 use native.Mathlib.Nat.{pow-suc}
 use Rattle.std.specs.Prelude.{Bool, nat_le, ◌/◌}
 use Rattle.std.proofs.lemmas.Bool.{leb-true, leb-false}

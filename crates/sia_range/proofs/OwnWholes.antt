@@ -1,5 +1,5 @@
 -- What a whole list's own hashes join to, at any places and at those of a range.
-use Rattle.std.proofs.Common.{◌≡◌, ℕ, zero, suc, ◌+◌, ◌-◌, ◌*◌, ◌^◌, ◌<◌, ◌≤◌, true, false, List, [], ◌∷◌, ◌++◌, length, map, take, drop, get_or, refl, sym, ◌∙◌, ap, arith, min, length-take, length-drop, append-nil}
+use Rattle.std.proofs.Common.{◌≡◌, ℕ, zero, suc, ◌+◌, ◌-◌, ◌*◌, ◌^◌, ◌<◌, ◌≤◌, true, false, List, [], ◌∷◌, ◌++◌, length, map, take, drop, get_or, refl, sym, ◌∙◌, ap, arith, min, append-nil}
 use Rattle.std.specs.Prelude.{Bool}
 use Rattle.std.specs.List.{range_with_len, filter}
 use Rattle.std.proofs.lemmas.Bool.{le-leb, lt-leb, le-ltb, lt-ltb}
@@ -7,10 +7,10 @@ use Rattle.std.proofs.lemmas.List.{length-map, take_all, drop_more}
 use Rattle.std.proofs.lemmas.List.Sums.{length-filter}
 use Rattle.std.proofs.lemmas.Simd.{map-map}
 use Rattle.std.proofs.Math.Bool.{and-false}
-use Rattle.sia_merkle.specs.Computations.{Tree, hash_of}
+use Rattle.sia_merkle.specs.Computations.{hash_of}
 use Rattle.sia_merkle.specs.Computations.Tree.{Given}
 use Rattle.sia_merkle.specs.Roots.{first_hash, node_root_of, tree_root}
-use Rattle.sia_merkle.specs.Segments.{cover, cover_within, others, places_between, first_tree, joined_within, segment_root, segment_roots, Joins}
+use Rattle.sia_merkle.specs.Segments.{cover, others, places_between, joined_within, segment_root, segment_roots, Joins}
 use Rattle.sia_merkle.proofs.Trees.{lt_pow}
 use Rattle.sia_range.proofs.Covers.{cover_none, past_covered}
 use Rattle.sia_range.proofs.Joins.{range_parts, hash_given}

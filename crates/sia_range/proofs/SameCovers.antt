@@ -1,14 +1,13 @@
 -- The roots of a cover depend on the covered places alone.
-use Rattle.std.proofs.Common.{◌≡◌, ℕ, zero, suc, ◌+◌, ◌-◌, ◌*◌, ◌^◌, ◌<◌, ◌≤◌, true, false, List, [], ◌∷◌, ◌++◌, length, map, take, drop, get_or, refl, sym, ◌∙◌, ap, arith, min}
+use Rattle.std.proofs.Common.{◌≡◌, ℕ, zero, suc, ◌+◌, ◌-◌, ◌*◌, ◌^◌, ◌<◌, ◌≤◌, true, false, List, [], ◌∷◌, ◌++◌, length, map, get_or, refl, sym, ◌∙◌, ap, arith, min}
 use native.Mathlib.Nat.{pow-suc}
 use Rattle.std.specs.Prelude.{Bool, ◌/◌}
 use Rattle.std.specs.List.{range_with_len}
 use Rattle.std.proofs.lemmas.Bool.{le-leb}
-use Rattle.std.proofs.lemmas.List.{map-append}
 use Rattle.sia_merkle.specs.Roots.{tree_root}
-use Rattle.sia_merkle.specs.Segments.{Segment, cover, cover_within, is_covered, segment_root, segment_roots}
+use Rattle.sia_merkle.specs.Segments.{cover, cover_within, is_covered, segment_root, segment_roots}
 use Rattle.sia_merkle.proofs.Trees.{lt_pow, pow_up}
-use Rattle.sia_range.proofs.Covers.{power_above, cover_at, cover_none, cover_one, cover_parts, cover_past, covered_all, covered_at, covered_within}
+use Rattle.sia_range.proofs.Covers.{power_above, cover_at, cover_none, cover_one, cover_past, covered_all, covered_at, covered_within}
 use Rattle.sia_range.proofs.OwnJoins.{root_at, roots_parts}
 use Rattle.sia_range.proofs.OwnWholes.{neighbours}
 

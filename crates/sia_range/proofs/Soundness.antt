@@ -1,7 +1,7 @@
 -- Two joins of one set of places that give one root join the same, or show a collision.
 use Rattle.std.proofs.Common.{◌≡◌, ℕ, zero, suc, ◌+◌, ◌-◌, ◌^◌, ◌<◌, ◌≤◌, true, false, List, [], ◌∷◌, ◌++◌, length, map, take, drop, refl, sym, ◌∙◌, ap, arith, min, length-drop, inl, inr}
-use Rattle.std.specs.Prelude.{Bool, not, nat_eq, nat_le, ◌&&◌, ◌⊎◌, count_by}
-use Rattle.std.specs.Cmp.Lexicographic.{pointwise, same_text}
+use Rattle.std.specs.Prelude.{Bool, nat_le, ◌&&◌, ◌⊎◌, count_by}
+use Rattle.std.specs.Cmp.Lexicographic.{same_text}
 use Rattle.std.specs.List.{range_with_len}
 use Rattle.std.proofs.lemmas.Bool.{leb-true, leb-false, not-true}
 use Rattle.std.proofs.lemmas.List.{length-take-le, take-append-drop}

@@ -3,7 +3,7 @@
 use Rattle.std.specs.Prelude.{ℕ, ◌-◌, ◌≡◌, Bool, List, ◌++◌, length, map, take, drop}
 use Rattle.sia_merkle.specs.Computations.{Tree, hash_of}
 use Rattle.sia_merkle.specs.Computations.Tree.{Given, Leaf}
-use Rattle.sia_merkle.specs.Roots.{leaf_count, leaf_digest, leaves_of}
+use Rattle.sia_merkle.specs.Roots.{leaf_count, leaf_digest, leaves_of, root_of}
 use Rattle.sia_merkle.specs.Segments.{cover, others, places_between, joined_within, joined_segments_within, segment_roots, Joins, JoinsSegments}
 use Rattle.sia_range.specs.declared.places.Side.{Side}
 use Rattle.sia_range.specs.declared.places.Side.TheVariants as side
@@ -63,3 +63,10 @@ own_nodes_tree hashes a b = range_tree (length hashes) a b (map Given (part_betw
 abbrev pub own_update_tree : List ℕ → ℕ → ℕ → Tree
 own_update_tree bytes a b =
     segments_tree (leaf_count (length bytes)) a b (roots_inside (map leaf_digest (leaves_of bytes)) (leaf_count (length bytes)) a b) (roots_outside (map leaf_digest (leaves_of bytes)) (leaf_count (length bytes)) a b)
+
+-- The roots of an update are a byte string's own, and what they join to with new leaves is the root of its list of leaves
+-- with these in the place of the old ones.
+pub record IsOwnUpdate (bytes new : List ℕ) (a b : ℕ) (inner outer : List (List ℕ)) : Type 0 where
+  pub inside : inner ≡ roots_inside (map leaf_digest (leaves_of bytes)) (leaf_count (length bytes)) a b
+  pub outside : outer ≡ roots_outside (map leaf_digest (leaves_of bytes)) (leaf_count (length bytes)) a b
+  pub after : hash_of (range_tree (leaf_count (length bytes)) a b (map Leaf (leaves_of new)) outer) ≡ root_of (replaced a b (leaves_of new) (leaves_of bytes))

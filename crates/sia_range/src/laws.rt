@@ -1,10 +1,10 @@
 //! What an accepted proof of a range shows, as laws. The functions here do nothing: their contracts are the laws, and a
 //! caller that wants one calls its function.
-ghost use Rattle.std.specs.Prelude.{◌≡◌, ◌<◌, ◌≤◌, ◌⊎◌, length, map};
+ghost use Rattle.std.specs.Prelude.{◌≡◌, ◌-◌, ◌<◌, ◌≤◌, ◌⊎◌, length, map};
 ghost use Rattle.sia_merkle.specs.Computations.{Collides};
 ghost use Rattle.sia_merkle.specs.Computations.Tree.{Given, Leaf};
 ghost use Rattle.sia_merkle.specs.Roots.{leaf_count, leaf_digest, leaves_of, node_root_of, root_of};
-ghost use Rattle.sia_range.specs.Ranges.{IsRangeProof, own_nodes_tree, own_range_tree, part_between, range_tree, roots_outside};
+ghost use Rattle.sia_range.specs.Ranges.{IsOwnUpdate, IsRangeProof, IsUpdateOf, own_nodes_tree, own_range_tree, own_update_tree, part_between, range_tree, roots_outside, segments_tree};
 
 use sia_blake::Hash;
 
@@ -46,4 +46,25 @@ pub fn other_nodes_collide(
     requires accepted { IsRangeProof _root.now (length _list.now) _a _b (map Given _roots.now) _hashes.now }
     ensures { ((_roots.now ≡ part_between _a _b _list.now) × (_hashes.now ≡ roots_outside _list.now (length _list.now) _a _b))
         ⊎ Collides (own_nodes_tree _list.now _a _b) (range_tree (length _list.now) _a _b (map Given _roots.now) _hashes.now) }
+{}
+
+/// Where a byte string has the root, and an update of the leaves at the places from `a` to `b` is accepted under that root
+/// for their number, its roots are the byte string's own and the root after it is that of the list of leaves with the new
+/// ones in place, or the two computations of the old root clash in a collision.
+pub fn another_update_collides(
+    _bytes: &[u8],
+    _root: &Hash,
+    _a: u64,
+    _b: u64,
+    _inner: &[Hash],
+    _outer: &[Hash],
+    _new: &[u8],
+)
+    requires some { _a < _b }
+    requires within { _b ≤ leaf_count (length _bytes.now) }
+    requires leaves { leaf_count (length _new.now) ≡ _b - _a }
+    requires root { root_of (leaves_of _bytes.now) ≡ _root.now }
+    requires accepted { IsUpdateOf _root.now (leaf_count (length _bytes.now)) _a _b _inner.now _outer.now }
+    ensures { IsOwnUpdate _bytes.now _new.now _a _b _inner.now _outer.now
+        ⊎ Collides (own_update_tree _bytes.now _a _b) (segments_tree (leaf_count (length _bytes.now)) _a _b _inner.now _outer.now) }
 {}

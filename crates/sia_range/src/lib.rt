@@ -9,6 +9,9 @@
 //!   no hash is missing or left over;
 //! - the root after an update of the range is the join with the new leaves in its place, and is given exactly where the
 //!   old roots of the range and those of the rest join to the old root;
+//! - [`another_range_collides`], [`other_nodes_collide`], [`another_update_collides`]: where a list has the root, what is
+//!   accepted under that root is the list's own, and the root after an update that of the list after it, or a collision of
+//!   the digest is shown;
 //! - checking takes no memory.
 //!
 //! It stands on sia_merkle for the tree, on sia_encoding for lists, and on sia_types for the proof of an update.
@@ -23,7 +26,7 @@ mod prove;
 mod update;
 
 pub use check::{check_nodes, check_range};
-pub use laws::{another_range_collides, other_nodes_collide};
+pub use laws::{another_range_collides, another_update_collides, other_nodes_collide};
 pub use prove::{prove_nodes, prove_range, prove_update};
 pub use update::root_after_update;
 
