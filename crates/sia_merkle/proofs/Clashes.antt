@@ -1,12 +1,13 @@
 -- Two computations of one shape and one root, which differ, show a collision.
-use Rattle.std.proofs.Common.{◌≡◌, ◌≢◌, ℕ, true, false, List, ◌∷◌, ◌++◌, length, take, drop, refl, sym, ◌∙◌, ap}
+use Rattle.std.proofs.Common.{◌≡◌, ◌≢◌, ℕ, true, false, List, ◌∷◌, ◌++◌, length, take, drop, Option, Some, None, refl, sym, ◌∙◌, ap}
 use Rattle.std.specs.Prelude.{Bool, nat_eq, ◌&&◌}
+use Rattle.std.specs.Option.{option_or}
 use Rattle.std.specs.Cmp.Lexicographic.{pointwise, same_text, other_text}
 use Rattle.std.proofs.Math.Bool.{true-and}
 use Rattle.std.proofs.lemmas.List.{take_at, drop_at}
 use Rattle.sia_blake.proofs.Bytes.{blake2b_256-length}
 use Rattle.sia_merkle.specs.Collision.{Collision}
-use Rattle.sia_merkle.specs.Computations.{Tree, hash_of, text_of, same_tree, clash, Collides, HaveOneShape, IsSized}
+use Rattle.sia_merkle.specs.Computations.{Tree, hash_of, text_of, same_tree, at_tops, clash, Collides, HaveOneShape, IsCollision, IsSized}
 use Rattle.sia_merkle.specs.Computations.Tree.{Given, Leaf, Node}
 use Rattle.sia_merkle.specs.Roots.{leaf_digest, node_digest}
 
@@ -35,27 +36,6 @@ right_of_text a b x y la lb e =
     let tails : a ++ x ≡ b ++ y = ap (drop 1) e in
     sym (drop_at a x 32 la) ∙ ap (drop 32) tails ∙ drop_at b y 32 lb
 
--- what the clash of two nodes is
-clash_left_below : (left right left' right' : Tree) → same_tree left left' ≡ false → pointwise nat_eq (hash_of left) (hash_of left') ≡ true
-    → clash (Node left right) (Node left' right') ≡ clash left left'
-unfolding clash
-clash_left_below left right left' right' e f = rw (e, f) refl
-
-clash_left_here : (left right left' right' : Tree) → same_tree left left' ≡ false → pointwise nat_eq (hash_of left) (hash_of left') ≡ false
-    → clash (Node left right) (Node left' right') ≡ (text_of (Node left right), text_of (Node left' right'))
-unfolding clash
-clash_left_here left right left' right' e f = rw (e, f) refl
-
-clash_right_below : (left right left' right' : Tree) → same_tree left left' ≡ true → pointwise nat_eq (hash_of right) (hash_of right') ≡ true
-    → clash (Node left right) (Node left' right') ≡ clash right right'
-unfolding clash
-clash_right_below left right left' right' e f = rw (e, f) refl
-
-clash_right_here : (left right left' right' : Tree) → same_tree left left' ≡ true → pointwise nat_eq (hash_of right) (hash_of right') ≡ false
-    → clash (Node left right) (Node left' right') ≡ (text_of (Node left right), text_of (Node left' right'))
-unfolding clash
-clash_right_here left right left' right' e f = rw (e, f) refl
-
 -- two nodes of one hash whose parts differ
 node_collides : (left right left' right' : Tree) → hash_of (Node left right) ≡ hash_of (Node left' right') → text_of (Node left right) ≢ text_of (Node left' right')
     → Collision (text_of (Node left right)) (text_of (Node left' right'))
@@ -74,50 +54,84 @@ texts_right : (left right left' right' : Tree) → IsSized left → IsSized left
 unfolding text_of
 texts_right left right left' right' sized sized' e = right_of_text (hash_of left) (hash_of left') (hash_of right) (hash_of right') (hash_of-length left sized) (hash_of-length left' sized') e
 
-when_left : (left right left' right' : Tree) → IsSized left → IsSized left' → same_tree left left' ≡ false → hash_of (Node left right) ≡ hash_of (Node left' right')
-    → (hash_of left ≡ hash_of left' → Collides left left') → (equal : Bool) → pointwise nat_eq (hash_of left) (hash_of left') ≡ equal
-    → Collides (Node left right) (Node left' right')
-when_left left right left' right' sized sized' differ one below true e = rw (clash_left_below left right left' right' differ e) (below (same_text _ _ (sym e)))
-when_left left right left' right' sized sized' differ one below false e =
-    rw (clash_left_here left right left' right' differ e) (node_collides left right left' right' one (λ texts. other_text _ _ (sym e) (texts_left left right left' right' sized sized' texts)))
+-- what a clash says of two computations that differ: it is a collision, and there is one where they have one hash
+abbrev IsClash : Tree → Tree → Option (List ℕ × List ℕ) → Type 0
+IsClash tree other None = hash_of tree ≢ hash_of other
+IsClash tree other (Some (text, text')) = Collision text text'
 
-when_right : (left right left' right' : Tree) → IsSized left → IsSized left' → same_tree left left' ≡ true → hash_of (Node left right) ≡ hash_of (Node left' right')
-    → (hash_of right ≡ hash_of right' → Collides right right') → (equal : Bool) → pointwise nat_eq (hash_of right) (hash_of right') ≡ equal
-    → Collides (Node left right) (Node left' right')
-when_right left right left' right' sized sized' same one below true e = rw (clash_right_below left right left' right' same e) (below (same_text _ _ (sym e)))
-when_right left right left' right' sized sized' same one below false e =
-    rw (clash_right_here left right left' right' same e) (node_collides left right left' right' one (λ texts. other_text _ _ (sym e) (texts_right left right left' right' sized sized' texts)))
+tops_by : (tree other : Tree) → (hash_of tree ≡ hash_of other → Collision (text_of tree) (text_of other)) → (equal : Bool) → pointwise nat_eq (hash_of tree) (hash_of other) ≡ equal
+    → IsClash tree other (at_tops tree other)
+tops_by tree other when true e = rw e (when (same_text _ _ (sym e)))
+tops_by tree other when false e = rw e (other_text _ _ (sym e))
 
-when_node : (left right left' right' : Tree) → IsSized left → IsSized left' → hash_of (Node left right) ≡ hash_of (Node left' right')
-    → (same_tree left left' ≡ false → hash_of left ≡ hash_of left' → Collides left left')
-    → (same_tree right right' ≡ false → hash_of right ≡ hash_of right' → Collides right right')
-    → (same_tree left left' && same_tree right right') ≡ false
-    → (same : Bool) → same_tree left left' ≡ same → Collides (Node left right) (Node left' right')
-when_node left right left' right' sized sized' one lefts rights differ true e =
-    let right_differs : same_tree right right' ≡ false = sym (ap (λ b. b && same_tree right right') e ∙ true-and (same_tree right right')) ∙ differ in
-    when_right left right left' right' sized sized' e one (rights right_differs) (pointwise nat_eq (hash_of right) (hash_of right')) refl
-when_node left right left' right' sized sized' one lefts rights differ false e =
-    when_left left right left' right' sized sized' e one (lefts e) (pointwise nat_eq (hash_of left) (hash_of left')) refl
+at_tops_clash : (tree other : Tree) → (hash_of tree ≡ hash_of other → Collision (text_of tree) (text_of other)) → IsClash tree other (at_tops tree other)
+at_tops_clash tree other when = tops_by tree other when (pointwise nat_eq (hash_of tree) (hash_of other)) refl
 
 given_agree : (hash hash' : List ℕ) → hash_of (Given hash) ≡ hash_of (Given hash') → pointwise nat_eq hash hash' ≡ false → ⊥
 unfolding hash_of
 given_agree hash hash' one differ = other_text hash hash' (sym differ) one
 
-clash_leaves : (bytes bytes' : List ℕ) → clash (Leaf bytes) (Leaf bytes') ≡ (text_of (Leaf bytes), text_of (Leaf bytes'))
+clash_given : (hash hash' : List ℕ) → clash (Given hash) (Given hash') ≡ at_tops (Given hash) (Given hash')
+unfolding clash
+clash_given hash hash' = refl
+
+clash_leaves : (bytes bytes' : List ℕ) → clash (Leaf bytes) (Leaf bytes') ≡ at_tops (Leaf bytes) (Leaf bytes')
 unfolding clash
 clash_leaves bytes bytes' = refl
+
+clash_left : (left right left' right' : Tree) → same_tree left left' ≡ false
+    → clash (Node left right) (Node left' right') ≡ option_or (clash left left') (at_tops (Node left right) (Node left' right'))
+unfolding clash
+clash_left left right left' right' differ = rw differ refl
+
+clash_right : (left right left' right' : Tree) → same_tree left left' ≡ true
+    → clash (Node left right) (Node left' right') ≡ option_or (clash right right') (at_tops (Node left right) (Node left' right'))
+unfolding clash
+clash_right left right left' right' same = rw same refl
+
+above_left : (left right left' right' : Tree) → IsSized left → IsSized left' → (below : Option (List ℕ × List ℕ)) → IsClash left left' below
+    → IsClash (Node left right) (Node left' right') (option_or below (at_tops (Node left right) (Node left' right')))
+above_left left right left' right' sized sized' None apart =
+    at_tops_clash (Node left right) (Node left' right') (λ one. node_collides left right left' right' one (λ texts. apart (texts_left left right left' right' sized sized' texts)))
+above_left left right left' right' sized sized' (Some (text, text')) collision = collision
+
+above_right : (left right left' right' : Tree) → IsSized left → IsSized left' → (below : Option (List ℕ × List ℕ)) → IsClash right right' below
+    → IsClash (Node left right) (Node left' right') (option_or below (at_tops (Node left right) (Node left' right')))
+above_right left right left' right' sized sized' None apart =
+    at_tops_clash (Node left right) (Node left' right') (λ one. node_collides left right left' right' one (λ texts. apart (texts_right left right left' right' sized sized' texts)))
+above_right left right left' right' sized sized' (Some (text, text')) collision = collision
+
+when_node : (left right left' right' : Tree) → IsSized left → IsSized left'
+    → (same_tree left left' ≡ false → IsClash left left' (clash left left')) → (same_tree right right' ≡ false → IsClash right right' (clash right right'))
+    → (same_tree left left' && same_tree right right') ≡ false → (same : Bool) → same_tree left left' ≡ same
+    → IsClash (Node left right) (Node left' right') (clash (Node left right) (Node left' right'))
+when_node left right left' right' sized sized' lefts rights differ true e =
+    let right_differs : same_tree right right' ≡ false = sym (ap (λ b. b && same_tree right right') e ∙ true-and (same_tree right right')) ∙ differ in
+    rw (clash_right left right left' right' e) (above_right left right left' right' sized sized' (clash right right') (rights right_differs))
+when_node left right left' right' sized sized' lefts rights differ false e =
+    rw (clash_left left right left' right' e) (above_left left right left' right' sized sized' (clash left left') (lefts e))
+
+-- two computations of one shape that differ
+clash_of_differing : (tree other : Tree) → IsSized tree → IsSized other → HaveOneShape tree other → same_tree tree other ≡ false → IsClash tree other (clash tree other)
+unfolding IsSized HaveOneShape same_tree
+clash_of_differing (Given hash) (Given hash') sized sized' shape differ =
+    rw (clash_given hash hash') (at_tops_clash (Given hash) (Given hash') (λ one. absurd (given_agree hash hash' one differ)))
+clash_of_differing (Given hash) (Leaf bytes') sized sized' shape differ = absurd shape
+clash_of_differing (Given hash) (Node left' right') sized sized' shape differ = absurd shape
+clash_of_differing (Leaf bytes) (Given hash') sized sized' shape differ = absurd shape
+clash_of_differing (Leaf bytes) (Leaf bytes') sized sized' shape differ =
+    rw (clash_leaves bytes bytes') (at_tops_clash (Leaf bytes) (Leaf bytes') (λ one. leaf_collides bytes bytes' one (other_text bytes bytes' (sym differ))))
+clash_of_differing (Leaf bytes) (Node left' right') sized sized' shape differ = absurd shape
+clash_of_differing (Node left right) (Given hash') sized sized' shape differ = absurd shape
+clash_of_differing (Node left right) (Leaf bytes') sized sized' shape differ = absurd shape
+clash_of_differing (Node left right) (Node left' right') sized sized' shape differ =
+    when_node left right left' right' sized.0 sized'.0 (λ apart. clash_of_differing left left' sized.0 sized'.0 shape.0 apart) (λ apart. clash_of_differing right right' sized.1 sized'.1 shape.1 apart) differ (same_tree left left') refl
+
+collided : (tree other : Tree) (found : Option (List ℕ × List ℕ)) → hash_of tree ≡ hash_of other → IsClash tree other found → IsCollision found
+collided tree other None one apart = absurd (apart one)
+collided tree other (Some (text, text')) one collision = collision
 
 -- two computations of one shape and one root that differ
 pub clash_collides : (tree other : Tree) → IsSized tree → IsSized other → HaveOneShape tree other → hash_of tree ≡ hash_of other → same_tree tree other ≡ false
     → Collides tree other
-unfolding IsSized HaveOneShape same_tree
-clash_collides (Given hash) (Given hash') sized sized' shape one differ = absurd (given_agree hash hash' one differ)
-clash_collides (Given hash) (Leaf bytes') sized sized' shape one differ = absurd shape
-clash_collides (Given hash) (Node left' right') sized sized' shape one differ = absurd shape
-clash_collides (Leaf bytes) (Given hash') sized sized' shape one differ = absurd shape
-clash_collides (Leaf bytes) (Leaf bytes') sized sized' shape one differ = rw (clash_leaves bytes bytes') (leaf_collides bytes bytes' one (other_text bytes bytes' (sym differ)))
-clash_collides (Leaf bytes) (Node left' right') sized sized' shape one differ = absurd shape
-clash_collides (Node left right) (Given hash') sized sized' shape one differ = absurd shape
-clash_collides (Node left right) (Leaf bytes') sized sized' shape one differ = absurd shape
-clash_collides (Node left right) (Node left' right') sized sized' shape one differ =
-    when_node left right left' right' sized.0 sized'.0 one (λ apart equal. clash_collides left left' sized.0 sized'.0 shape.0 equal apart) (λ apart equal. clash_collides right right' sized.1 sized'.1 shape.1 equal apart) differ (same_tree left left') refl
+clash_collides tree other sized sized' shape one differ = collided tree other (clash tree other) one (clash_of_differing tree other sized sized' shape differ)

@@ -1,7 +1,8 @@
 -- How a root is computed, as a tree of its own. Roots of lists, proofs of one leaf, of a range and of a diff are all
 -- computed so, and two of them are compared here, once for all.
-use Rattle.std.specs.Prelude.{ℕ, ◌≡◌, List, ◌∷◌, ◌++◌, Bool, false, ◌&&◌, nat_eq, length, if◌then◌else◌}
+use Rattle.std.specs.Prelude.{ℕ, ◌≡◌, List, ◌∷◌, ◌++◌, Bool, false, ◌&&◌, nat_eq, length, if◌then◌else◌, Option, Some, None}
 use Rattle.std.specs.Cmp.Lexicographic.{pointwise}
+use Rattle.std.specs.Option.{option_or}
 use Rattle.sia_merkle.specs.Collision.{Collision}
 use Rattle.sia_merkle.specs.Roots.{leaf_digest, node_digest}
 
@@ -30,14 +31,15 @@ same_tree (Leaf bytes) (Leaf other) = pointwise nat_eq bytes other
 same_tree (Node left right) (Node left' right') = same_tree left left' && same_tree right right'
 same_tree _ _ = false
 
--- The pair of byte strings at which two computations clash. Take the path from the root to their first difference from
--- the left: it is the pair that is hashed at the lowest point of the path where the two hashes are equal.
-unfoldable pub clash : Tree → Tree → List ℕ × List ℕ
-clash (Node left right) (Node left' right') =
-    if same_tree left left'
-    then (if pointwise nat_eq (hash_of right) (hash_of right') then clash right right' else (text_of (Node left right), text_of (Node left' right')))
-    else (if pointwise nat_eq (hash_of left) (hash_of left') then clash left left' else (text_of (Node left right), text_of (Node left' right')))
-clash tree other = (text_of tree, text_of other)
+-- the two byte strings that are hashed at their tops, where these have one hash
+abbrev pub at_tops : Tree → Tree → Option (List ℕ × List ℕ)
+at_tops tree other = if pointwise nat_eq (hash_of tree) (hash_of other) then Some (text_of tree, text_of other) else None
+
+-- The pair of byte strings at which two computations clash, if there is one. Take the path from the root to their first
+-- difference from the left: it is the pair that is hashed at the lowest point of the path where the two hashes are equal.
+unfoldable pub clash : Tree → Tree → Option (List ℕ × List ℕ)
+clash (Node left right) (Node left' right') = option_or (if same_tree left left' then clash right right' else clash left left') (at_tops (Node left right) (Node left' right'))
+clash tree other = at_tops tree other
 
 -- both are given hashes, both are leaves, or both are nodes over two of one shape
 unfoldable pub HaveOneShape : Tree → Tree → Type 0
@@ -52,6 +54,11 @@ IsSized (Given hash) = length hash ≡ 32
 IsSized (Leaf bytes) = Unit {0}
 IsSized (Node left right) = IsSized left × IsSized right
 
+-- there is such a pair, and it is a collision
+abbrev pub IsCollision : Option (List ℕ × List ℕ) → Type 0
+IsCollision None = ⊥
+IsCollision (Some (text, other)) = Collision text other
+
 -- the clash of two computations is a collision
 abbrev pub Collides : Tree → Tree → Type 0
-Collides tree other = Collision ((clash tree other).0) ((clash tree other).1)
+Collides tree other = IsCollision (clash tree other)
