@@ -2,7 +2,9 @@ pub mod Beside
 pub mod Clashes
 pub mod Climbs
 pub mod Cuts
+pub mod Fours
 pub mod LeafSoundness
+pub mod Raises
 mod Shapes
 pub mod Stacks
 pub mod Trees

@@ -15,6 +15,7 @@
 //! It stands on sia_blake for the digest, and on sia_encoding for lists and the count of steps.
 #![tactic(auto)]
 
+mod groups;
 mod hashing;
 mod leaf_proof;
 mod nodes;
@@ -30,5 +31,7 @@ pub use soundness::another_leaf_collides;
 pub use stack::RootStack;
 pub use whole::{leaves, node_root, root, root_splits};
 
+#[cfg(test)]
+mod group_tests;
 #[cfg(test)]
 mod tests;

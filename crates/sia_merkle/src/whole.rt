@@ -2,6 +2,7 @@
 ghost use Rattle.std.specs.Prelude.{◌≡◌, ◌*◌, ◌^◌, ◌<◌, ◌≤◌, length, take, drop};
 ghost use Rattle.sia_merkle.specs.Roots.{leaf_at, leaf_count, leaves_of, node_digest, node_root_of, root_of};
 
+use crate::groups::{GROUP, GROUP_LEN, group_root, leaf_group_root};
 use crate::stack::RootStack;
 use sia_blake::Hash;
 
@@ -20,14 +21,68 @@ pub(crate) fn power(exponent: u32) -> u64
     1 << exponent
 }
 
-/// The leaf at a place of a byte string: 64 bytes, or what is left of them in the last one.
-fn leaf_of(bytes: &[u8], place: usize) -> &[u8]
-    requires { 64 * place ≤ length bytes.now }
-    ensures { result.now ≡ leaf_at bytes.now place }
+/// The part of a byte string at a place, where each has so many bytes: that many, or what is left of them in the last one.
+fn part_of(bytes: &[u8], size: usize, place: usize) -> &[u8]
+    requires { size * place ≤ length bytes.now }
+    ensures { result.now ≡ take size (drop (size * place) bytes.now) }
 {
-    let (_, rest) = bytes.split_at(64 * place);
-    let (leaf, _) = rest.split_at(rest.len().min(64));
-    leaf
+    let (_, rest) = bytes.split_at(size * place);
+    let (part, _) = rest.split_at(rest.len().min(size));
+    part
+}
+
+/// The group of hashes at a place: 64 of them, or what is left of them in the last one.
+fn group_of(hashes: &[Hash], place: usize) -> &[Hash]
+    requires { 64 * place ≤ length hashes.now }
+    ensures { result.now ≡ take 64 (drop (64 * place) hashes.now) }
+{
+    let (_, rest) = hashes.split_at(GROUP * place);
+    let (group, _) = rest.split_at(rest.len().min(GROUP));
+    group
+}
+
+/// The root over leaves that are pushed one by one.
+pub(crate) fn root_by_leaf(bytes: &[u8]) -> Hash
+    ensures { result ≡ root_of (leaves_of bytes.now) }
+{
+    let mut stack = RootStack::new();
+    for place in 0..bytes.len().div_ceil(64) {
+        stack.push_leaf(part_of(bytes, 64, place));
+    }
+    stack.root()
+}
+
+/// The root over hashes that are pushed one by one.
+pub(crate) fn root_by_hash(hashes: &[Hash]) -> Hash
+    ensures { result ≡ node_root_of hashes.now }
+{
+    let mut stack = RootStack::new();
+    for hash in hashes {
+        stack.push_hash(hash);
+    }
+    stack.root()
+}
+
+/// The root over a group of leaves, of which the last group may lack some.
+fn leaf_part_root(bytes: &[u8]) -> Hash
+    ensures { result ≡ root_of (leaves_of bytes.now) }
+{
+    if bytes.len() == GROUP_LEN {
+        leaf_group_root(bytes)
+    } else {
+        root_by_leaf(bytes)
+    }
+}
+
+/// The root over a group of hashes, of which the last group may lack some.
+fn part_root(hashes: &[Hash]) -> Hash
+    ensures { result ≡ node_root_of hashes.now }
+{
+    if hashes.len() == GROUP {
+        group_root(hashes)
+    } else {
+        root_by_hash(hashes)
+    }
 }
 
 /// The root over the leaves of a byte string; 32 zero bytes for no bytes.
@@ -35,8 +90,8 @@ pub fn root(bytes: &[u8]) -> Hash
     ensures { result ≡ root_of (leaves_of bytes.now) }
 {
     let mut stack = RootStack::new();
-    for place in 0..bytes.len().div_ceil(64) {
-        stack.push_leaf(leaf_of(bytes, place));
+    for place in 0..bytes.len().div_ceil(GROUP_LEN) {
+        stack.push_hash(&leaf_part_root(part_of(bytes, GROUP_LEN, place)));
     }
     stack.root()
 }
@@ -46,8 +101,8 @@ pub fn node_root(hashes: &[Hash]) -> Hash
     ensures { result ≡ node_root_of hashes.now }
 {
     let mut stack = RootStack::new();
-    for hash in hashes {
-        stack.push_hash(hash);
+    for place in 0..hashes.len().div_ceil(GROUP) {
+        stack.push_hash(&part_root(group_of(hashes, place)));
     }
     stack.root()
 }

@@ -1,4 +1,4 @@
-use Rattle.std.proofs.Common.{◌≤◌, ◌*◌, ◌^◌, suc, length, arith}
+use Rattle.std.proofs.Common.{◌≤◌, ◌^◌, suc, length, arith}
 use native.Mathlib.Nat.{pow-suc}
 use Rattle.sia_merkle.proofs.Trees.{node_root_of-split}
 use Rattle.sia_merkle.proofs.whole.root_splits.Goals as goal

@@ -1,6 +1,6 @@
 use Rattle.std.proofs.Common.{◌≡◌, length, take, min, ap, ◌∙◌, arith}
 use Rattle.std.proofs.lemmas.List.{take_min}
-use Rattle.sia_merkle.proofs.whole.leaf_of.Goals as goal
+use Rattle.sia_merkle.proofs.whole.group_of.Goals as goal
 
 pub returns : goal.returns
 returns c =
