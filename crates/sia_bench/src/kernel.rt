@@ -1,10 +1,11 @@
 //! The words of the command line.
 
+use crate::sectors::Slots;
 use crate::turns::Crew;
 
 /// What the program prints where the words are wrong.
 pub(crate) const USAGE: &str =
-    "usage: sia_bench digest FILE N | sia_bench turn THREADS N (N at least 1, THREADS 1 to 64)";
+    "usage: sia_bench digest FILE N | turn THREADS N | journal FILE N | open FILE | shelf FILE N (N at least 1, THREADS 1 to 64, of shelf N at most 1048576)";
 
 /// What to run.
 #[derive(Clone, Copy)]
@@ -13,22 +14,40 @@ pub(crate) enum Kernel<'a> {
     Digest { file: &'a str, times: u64 },
     /// Let each of the threads take as many turns, and then as many locks.
     Turn { crew: Crew, times: u64 },
+    /// Append as many records to the journal of the file.
+    Journal { file: &'a str, times: u64 },
+    /// Open the journal of the file and read its records.
+    Open { file: &'a str },
+    /// Put and sync as many sectors in the file.
+    Shelf { file: &'a str, slots: Slots },
 }
 
 /// The kernel that the words name.
 pub(crate) fn kernel_of(words: &[String]) -> Option<Kernel<'_>> {
-    let [name, on, times] = words else {
-        return None;
-    };
-    let times: u64 = times.as_str().parse().ok()?;
-    match name.as_str() {
-        "digest" if times > 0 => Some(Kernel::Digest {
-            file: on.as_str(),
-            times,
+    match words {
+        [name, file] if name.as_str() == "open" => Some(Kernel::Open {
+            file: file.as_str(),
         }),
-        "turn" if times > 0 => {
-            let crew = Crew::of(on.as_str().parse().ok()?)?;
+        [name, on, times] => repeated(name.as_str(), on.as_str(), times.as_str().parse().ok()?),
+        _ => None,
+    }
+}
+
+/// The kernel of a name that does something as many times, at least once.
+fn repeated<'a>(name: &str, on: &'a str, times: u64) -> Option<Kernel<'a>> {
+    if times == 0 {
+        return None;
+    }
+    match name {
+        "digest" => Some(Kernel::Digest { file: on, times }),
+        "turn" => {
+            let crew = Crew::of(on.parse().ok()?)?;
             Some(Kernel::Turn { crew, times })
+        }
+        "journal" => Some(Kernel::Journal { file: on, times }),
+        "shelf" => {
+            let slots = Slots::of(times)?;
+            Some(Kernel::Shelf { file: on, slots })
         }
         _ => None,
     }
@@ -40,13 +59,20 @@ mod tests {
     use std::test::Fail;
 
     #[test]
-    fn a_file_and_a_count_above_zero_name_the_digest(rt: HostRuntime) -> Result<(), Fail> {
-        for (line, named) in [
-            (["digest", "abc", "3"], true),
-            (["digest", "abc", "0"], false),
-            (["digest", "abc", "three"], false),
-            (["digests", "abc", "3"], false),
-        ] {
+    fn words_name_a_kernel(rt: HostRuntime) -> Result<(), Fail> {
+        let cases: [(&[&str], bool); 10] = [
+            (&["digest", "abc", "3"], true),
+            (&["digest", "abc", "0"], false),
+            (&["digest", "abc", "three"], false),
+            (&["digests", "abc", "3"], false),
+            (&["turn", "65", "3"], false),
+            (&["journal", "abc", "3"], true),
+            (&["open", "abc"], true),
+            (&["open", "abc", "3"], false),
+            (&["shelf", "abc", "1048576"], true),
+            (&["shelf", "abc", "1048577"], false),
+        ];
+        for (line, named) in cases {
             let mut words = Vec::new(rt.alloc());
             for word in line {
                 words.push(String::from_str(rt.alloc(), word)?)?;

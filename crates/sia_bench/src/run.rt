@@ -4,8 +4,11 @@ ghost use Rattle.std.specs.Prelude.{◌≡◌};
 ghost use Rattle.sia_blake.specs.Blake2b.{blake2b_256};
 
 use crate::kernel::Kernel;
+use crate::records::{append_nanos, open_nanos};
+use crate::sectors::put_nanos;
 use crate::turns::{lock_nanos, turn_nanos};
 use sia_blake::{Hash, digest};
+use std::fs::File;
 use std::rt::{Clock, Files};
 use std::sync::Wait;
 use std::thread::Threads;
@@ -24,7 +27,7 @@ fn digest_again(bytes: &[u8], times: u64) -> Hash
     last
 }
 
-pub(crate) fn run<R: Files + Print + AllocGlobal + Clock + Threads + Wait + Sync>(
+pub(crate) fn run<R: Files<File = File> + Print + AllocGlobal + Clock + Threads + Wait + Sync>(
     rt: &R,
     kernel: Kernel<'_>,
 ) -> io::Result<()> {
@@ -42,6 +45,20 @@ pub(crate) fn run<R: Files + Print + AllocGlobal + Clock + Threads + Wait + Sync
             let locks = lock_nanos(rt, rt.alloc(), crew, times)?;
             println!(rt; "turn {turns}")?;
             println!(rt; "mutex {locks}")
+        }
+        Kernel::Journal { file, times } => {
+            let nanos = append_nanos(rt, rt.alloc(), file, times)?;
+            println!(rt; "append {nanos}")
+        }
+        Kernel::Open { file } => {
+            let opening = open_nanos(rt, rt.alloc(), file)?;
+            println!(rt; "records {}", opening.records)?;
+            println!(rt; "open {}", opening.open)?;
+            println!(rt; "read {}", opening.read)
+        }
+        Kernel::Shelf { file, slots } => {
+            let nanos = put_nanos(rt, rt.alloc(), file, slots)?;
+            println!(rt; "put {nanos}")
         }
     }
 }

@@ -1,0 +1,49 @@
+-- What putting and syncing a slot changes.
+use Rattle.std.proofs.Common.{◌≡◌, ◌≢◌, ℕ, ◌+◌, ◌<◌, ◌≤◌, List, length, map, set, arith, sym, ap, ◌∙◌, refl, inl, inr, get_or-set_same, get_or-set_other, subst}
+use Rattle.std.proofs.lemmas.Bool.{cases_eq}
+use Rattle.std.proofs.Math.ListN.{get_or-map}
+use Rattle.sia_shelf.specs.Slots.{Has, InEach, KeepsOthers}
+use Rattle.sia_shelf.specs.Shelf.{mark_of, settled}
+use Rattle.sia_shelf.specs.declared.mark.Mark.{Mark}
+use Rattle.sia_shelf.specs.declared.mark.Mark.TheVariants as mark
+
+-- the slot that was put is live after the sync
+put_live : (marks : List Mark) (slot : ℕ) → slot < length marks → mark_of (map settled (set marks slot mark.Put)) slot ≡ mark.Live
+put_live marks slot there = get_or-map settled (set marks slot mark.Put) slot mark.Free ∙ ap settled (get_or-set_same marks slot mark.Put mark.Free there)
+
+-- another slot that is free or live stays so
+others_stay : (marks : List Mark) (slot other : ℕ) (to : Mark) → other ≢ slot → mark_of marks other ≡ to → settled to ≡ to
+    → mark_of (map settled (set marks slot mark.Put)) other ≡ to
+others_stay marks slot other to differs was stays =
+    get_or-map settled (set marks slot mark.Put) other mark.Free ∙ ap settled (get_or-set_other marks slot other mark.Put mark.Free differs ∙ was) ∙ stays
+
+pub live_more : (marks : List Mark) (slot : ℕ) → slot < length marks → ((k : ℕ) → k < slot → mark_of marks k ≡ mark.Live)
+    → (k : ℕ) → k < slot + 1 → mark_of (map settled (set marks slot mark.Put)) k ≡ mark.Live
+live_more marks slot there below k under = elim (cases_eq k slot) [
+  | inl same ↦ ap (mark_of (map settled (set marks slot mark.Put))) same ∙ put_live marks slot there
+  | inr differs ↦ others_stay marks slot k mark.Live differs (below k (omega (arith, differs, under))) refl
+]
+
+pub free_above : (marks : List Mark) (slot : ℕ) → ((k : ℕ) → slot ≤ k → mark_of marks k ≡ mark.Free)
+    → (k : ℕ) → slot + 1 ≤ k → mark_of (map settled (set marks slot mark.Put)) k ≡ mark.Free
+free_above marks slot above k over =
+    let differs : k ≢ slot = omega (arith, over) in
+    others_stay marks slot k mark.Free differs (above k (omega (arith, over))) refl
+
+-- each slot so far keeps its bytes
+pub kept_more : (sector old put slot : ℕ) (bytes before after synced : List ℕ) (images : List ℕ → Type 0)
+    → old ≡ sector → put ≡ old → synced ≡ after → Has old slot bytes after → KeepsOthers old slot before after
+    → ((k : ℕ) (held : List ℕ) → Has put k held after → InEach put k held images)
+    → ((k : ℕ) → k < slot → Has sector k bytes before)
+    → (k : ℕ) → k < slot + 1 → Has sector k bytes synced × InEach sector k bytes images
+kept_more sector old put slot bytes before after synced images is stays same wrote others kept below k under =
+    let At : ℕ → Type 0 = λ at. Has old at bytes after in
+    let Before : ℕ → Type 0 = λ size. Has size k bytes before in
+    let After : ℕ → Type 0 = λ size. Has size k bytes after in
+    let Synced : List ℕ → Type 0 = λ image. Has sector k bytes image in
+    let Each : ℕ → Type 0 = λ size. InEach size k bytes images in
+    let has : Has old k bytes after = elim (cases_eq k slot) [
+      | inl last ↦ subst At (sym last) wrote
+      | inr differs ↦ others k bytes differs (subst Before (sym is) (below k (omega (arith, differs, under))))
+    ] in
+    (subst Synced (sym same) (subst After is has), subst Each (stays ∙ is) (kept k bytes (subst After (sym stays) has)))
