@@ -1,60 +1,141 @@
 //! What no clause says: that the proofs are those of the world outside, and that calls that take memory succeed.
 use super::*;
 use sia_blake::Hash;
-use sia_merkle::{PlainNodes, leaf_hash, node_root, root};
+use sia_merkle::PlainNodes;
 use std::test::Fail;
 
-/// Seven leaves, of which the last has 16 bytes. The byte at place i is i modulo 251.
-fn message() -> [u8; 400] {
-    let mut bytes = [0; 400];
+/// Six leaves, of which the last has 10 bytes. The byte at place i is i modulo 251.
+fn message() -> [u8; 330] {
+    let mut bytes = [0; 330];
     for (i, byte) in bytes.iter_mut().enumerate() {
         *byte = (i % 251) as u8;
     }
     bytes
 }
 
-/// The same with each byte of the second and third leaf 9.
-fn changed() -> [u8; 400] {
-    let mut bytes = message();
-    bytes[64..192].fill(9);
-    bytes
-}
+/// Its root by Python's hashlib, with the recursion written out.
+const ROOT: Hash = [
+    0x99, 0xc6, 0x23, 0xe7, 0x86, 0xd8, 0x3d, 0x23, 0x40, 0x4a, 0xbd, 0x45, 0xb8, 0x64, 0xcd, 0x4a,
+    0x98, 0xd0, 0xaf, 0xa2, 0x9f, 0x0d, 0x73, 0x6d, 0xbe, 0xa4, 0x01, 0x7f, 0xed, 0x60, 0xfe, 0x2e,
+];
 
-/// The roots over the places 0, 3, 4 with 5, and 6.
-fn cover(message: &[u8; 400]) -> [Hash; 4] {
+/// And the roots over the places 0, 3, and 4 with 5.
+const PROOF: [Hash; 3] = [
     [
-        leaf_hash(&message[..64]),
-        leaf_hash(&message[192..256]),
-        root(&message[256..384]),
-        leaf_hash(&message[384..]),
-    ]
-}
+        0x54, 0x50, 0xd0, 0xd0, 0xdc, 0x7e, 0xb2, 0x2a, 0x12, 0xf0, 0x96, 0x17, 0x23, 0x63, 0x54,
+        0xbd, 0xe6, 0x54, 0x26, 0xd3, 0x7c, 0x72, 0x21, 0xea, 0x1d, 0xad, 0x7f, 0xf3, 0x7b, 0x58,
+        0xab, 0x26,
+    ],
+    [
+        0x78, 0x84, 0xe0, 0x74, 0x5f, 0xb5, 0x11, 0x1c, 0x44, 0xa8, 0x74, 0x25, 0x67, 0x41, 0xde,
+        0x57, 0x07, 0xd7, 0xc6, 0xb5, 0xb0, 0x57, 0xc3, 0x74, 0xe7, 0x81, 0xdc, 0xa6, 0x29, 0x0d,
+        0x4d, 0xb9,
+    ],
+    [
+        0x04, 0x71, 0x41, 0x4e, 0x6f, 0xc8, 0x7e, 0x21, 0x17, 0xba, 0x01, 0xd3, 0xae, 0x31, 0xf5,
+        0x06, 0x9a, 0xbc, 0xaf, 0x68, 0x49, 0xb5, 0x10, 0x3f, 0x68, 0x31, 0xf5, 0x32, 0x8f, 0x00,
+        0x23, 0x69,
+    ],
+];
+
+/// The hashes of its second and third leaf.
+const RANGE: [Hash; 2] = [
+    [
+        0x97, 0xe8, 0x88, 0xb1, 0x0a, 0x74, 0x90, 0x16, 0xf3, 0x6e, 0x98, 0xca, 0xb8, 0xeb, 0xb8,
+        0x30, 0x6b, 0x0c, 0xa0, 0xa3, 0xa4, 0xb7, 0x82, 0x21, 0xf2, 0x48, 0x39, 0xd7, 0xd4, 0xe2,
+        0xec, 0xd3,
+    ],
+    [
+        0x82, 0x76, 0x35, 0x71, 0x66, 0x84, 0xd2, 0xb0, 0x86, 0xb0, 0xae, 0x88, 0xce, 0x46, 0x3d,
+        0xf1, 0xf6, 0xfc, 0x19, 0xea, 0x88, 0x63, 0xae, 0xd9, 0xce, 0x20, 0x6d, 0x79, 0x1e, 0xc1,
+        0x9c, 0xf9,
+    ],
+];
+
+/// The root where each byte of the second and third leaf is 9.
+const CHANGED_ROOT: Hash = [
+    0x46, 0x60, 0xf9, 0xd3, 0x40, 0xb3, 0xb4, 0x16, 0x09, 0x12, 0xc6, 0xb0, 0x3b, 0x7e, 0xc4, 0x60,
+    0xce, 0xca, 0x02, 0x46, 0x00, 0x27, 0xfa, 0x76, 0x63, 0x9d, 0xaf, 0x02, 0xd8, 0xae, 0x71, 0x9b,
+];
+
+/// The hashes of the leaves `a` to `e`.
+const LETTERS: [Hash; 5] = [
+    [
+        0x72, 0x34, 0x08, 0x2e, 0x1d, 0xd0, 0xb5, 0xec, 0x0a, 0xcd, 0x71, 0x87, 0x5d, 0x61, 0xc9,
+        0xf3, 0x74, 0xaf, 0x30, 0xc1, 0x00, 0xbc, 0x4d, 0xe7, 0xaa, 0x4e, 0xb3, 0xf1, 0x5b, 0xbe,
+        0xd6, 0x86,
+    ],
+    [
+        0xb3, 0xd5, 0xde, 0xdf, 0x65, 0x4e, 0x9f, 0xc8, 0x53, 0xbd, 0xc5, 0xda, 0xf7, 0x93, 0x30,
+        0xc5, 0xa1, 0xea, 0xf2, 0xb9, 0x10, 0xf2, 0xa3, 0x6c, 0x72, 0xef, 0x8e, 0xa9, 0x99, 0xcc,
+        0xf9, 0x53,
+    ],
+    [
+        0x96, 0x02, 0x59, 0xf5, 0xc0, 0x88, 0x5e, 0x7b, 0x79, 0x67, 0xcc, 0x25, 0x15, 0x8b, 0xc9,
+        0x06, 0x9d, 0xb1, 0xca, 0x82, 0x22, 0xe7, 0xbe, 0xff, 0xdf, 0xff, 0xe5, 0xde, 0xa0, 0x29,
+        0x79, 0x66,
+    ],
+    [
+        0x9f, 0xa9, 0x61, 0x17, 0xcd, 0xa5, 0x18, 0x7d, 0xd7, 0x69, 0x9a, 0x57, 0xa1, 0x6c, 0xbf,
+        0x37, 0xbb, 0x33, 0x53, 0xc1, 0x38, 0x5e, 0x78, 0x54, 0xab, 0x6e, 0x13, 0x1d, 0xf6, 0x3c,
+        0xc6, 0x59,
+    ],
+    [
+        0x3f, 0xb4, 0x58, 0x2e, 0x88, 0x55, 0x01, 0x34, 0x01, 0x84, 0x97, 0xab, 0x95, 0x86, 0x51,
+        0xcd, 0xc7, 0xb7, 0x2d, 0x3e, 0x2e, 0x01, 0x30, 0x1b, 0x3f, 0x44, 0xf8, 0xba, 0x6e, 0x82,
+        0x1a, 0x78,
+    ],
+];
+
+/// Their root.
+const LETTERS_ROOT: Hash = [
+    0x57, 0xd3, 0x66, 0x22, 0xe3, 0xf9, 0x00, 0xda, 0xdd, 0x32, 0x7f, 0xb1, 0x08, 0xb6, 0x2e, 0x28,
+    0x2c, 0xb8, 0xf6, 0x52, 0x25, 0xff, 0x24, 0x74, 0x9d, 0xf7, 0x8d, 0x09, 0x17, 0x6c, 0x1d, 0x0d,
+];
+
+/// The root of the first two.
+const FIRST_TWO: Hash = [
+    0xee, 0x61, 0x66, 0x25, 0xa5, 0x90, 0x16, 0x7b, 0xc4, 0xb3, 0xdc, 0x70, 0x3a, 0xb4, 0xf3, 0xf2,
+    0xdd, 0xec, 0xbe, 0xe6, 0xb9, 0xd0, 0x5f, 0xee, 0x92, 0x81, 0xf0, 0x20, 0x46, 0xe6, 0x08, 0x2e,
+];
 
 #[test]
 fn a_range_is_proved_by_the_cover_of_all_other_places(rt: HostRuntime) -> Result<(), Fail> {
     let message = message();
-    let whole = root(&message);
-    let cover = cover(&message);
     let proof = prove_range(rt.alloc(), &message, 1, 3)?;
-    assert!(rt; proof.as_slice() == &cover[..]);
-    assert!(rt; check_range(&whole, 7, 1, 3, &message[64..192], &cover).is_some());
-    assert!(rt; check_range(&whole, 7, 1, 3, &message[64..192], &cover[..3]).is_none());
-    assert!(rt; check_range(&whole, 7, 2, 4, &message[64..192], &cover).is_none());
-    let spare = [cover[0], cover[1], cover[2], cover[3], [0; 32]];
-    assert!(rt; check_range(&whole, 7, 1, 3, &message[64..192], &spare).is_none());
+    assert!(rt; proof.as_slice() == &PROOF[..]);
+    assert!(rt; check_range(&ROOT, 6, 1, 3, &message[64..192], &PROOF).is_some());
+    assert!(rt; check_range(&ROOT, 6, 1, 3, &message[64..192], &PROOF[..2]).is_none());
+    assert!(rt; check_range(&ROOT, 6, 2, 4, &message[64..192], &PROOF).is_none());
+    assert!(rt; check_range(&ROOT, 6, 1, 3, &message[64..191], &PROOF).is_none());
+    for spare in [[0; 32], PROOF[0], PROOF[2]] {
+        let hashes = [PROOF[0], PROOF[1], PROOF[2], spare];
+        assert!(rt; check_range(&ROOT, 6, 1, 3, &message[64..192], &hashes).is_none());
+    }
     Ok(())
+}
+
+#[test]
+fn a_range_with_any_bit_changed_is_refused(rt: HostRuntime) {
+    let message = message();
+    for bit in 0..1024 {
+        let mut changed = message;
+        changed[64 + bit / 8] ^= 1 << (bit % 8);
+        assert!(rt;
+            check_range(&ROOT, 6, 1, 3, &changed[64..192], &PROOF).is_none(),
+            "bit {bit}"
+        );
+    }
 }
 
 #[test]
 fn a_proof_with_any_bit_changed_is_refused(rt: HostRuntime) {
     let message = message();
-    let whole = root(&message);
-    let cover = cover(&message);
-    for bit in 0..1024 {
-        let mut changed = cover;
+    for bit in 0..768 {
+        let mut changed = PROOF;
         changed[bit / 256][bit / 8 % 32] ^= 1 << (bit % 8);
         assert!(rt;
-            check_range(&whole, 7, 1, 3, &message[64..192], &changed).is_none(),
+            check_range(&ROOT, 6, 1, 3, &message[64..192], &changed).is_none(),
             "bit {bit}"
         );
     }
@@ -62,33 +143,31 @@ fn a_proof_with_any_bit_changed_is_refused(rt: HostRuntime) {
 
 #[test]
 fn hashes_are_proved_as_leaves_are(rt: HostRuntime) -> Result<(), Fail> {
-    let hashes = [
-        leaf_hash(b"a"),
-        leaf_hash(b"b"),
-        leaf_hash(b"c"),
-        leaf_hash(b"d"),
-        leaf_hash(b"e"),
-    ];
-    let whole = node_root(&hashes);
-    let proof = prove_nodes(rt.alloc(), &PlainNodes { hashes: &hashes }, 2, 5)?;
-    assert!(rt; proof.as_slice() == &[node_root(&hashes[..2])][..]);
-    assert!(rt; check_nodes(&whole, 5, 2, 5, &hashes[2..], proof.as_slice()).is_some());
-    assert!(rt; check_nodes(&whole, 5, 1, 4, &hashes[2..], proof.as_slice()).is_none());
+    let proof = prove_nodes(rt.alloc(), &PlainNodes { hashes: &LETTERS }, 2, 5)?;
+    assert!(rt; proof.as_slice() == &[FIRST_TWO][..]);
+    assert!(rt; check_nodes(&LETTERS_ROOT, 5, 2, 5, &LETTERS[2..], &[FIRST_TWO]).is_some());
+    assert!(rt; check_nodes(&LETTERS_ROOT, 5, 1, 4, &LETTERS[2..], &[FIRST_TWO]).is_none());
+    assert!(rt;
+        check_nodes(
+            &LETTERS_ROOT,
+            5,
+            2,
+            5,
+            &LETTERS[2..],
+            &[FIRST_TWO, FIRST_TWO]
+        )
+        .is_none()
+    );
     Ok(())
 }
 
 #[test]
 fn an_update_gives_the_root_of_the_changed_leaves(rt: HostRuntime) -> Result<(), Fail> {
-    let before = message();
-    let old = root(&before);
-    let after = changed();
-    let proof = prove_update(rt.alloc(), &before, 1, 3)?;
-    assert!(rt;
-        proof.inner.as_slice() == &[leaf_hash(&before[64..128]), leaf_hash(&before[128..192])][..]
-    );
-    assert!(rt; proof.outer.as_slice() == &cover(&before)[..]);
-    assert!(rt; root_after_update(&old, 7, 1, 3, &proof, &[9; 128]) == Some(root(&after)));
-    assert!(rt; root_after_update(&root(&after), 7, 1, 3, &proof, &[9; 128]).is_none());
-    assert!(rt; root_after_update(&old, 7, 2, 4, &proof, &[9; 128]).is_none());
+    let proof = prove_update(rt.alloc(), &message(), 1, 3)?;
+    assert!(rt; proof.inner.as_slice() == &RANGE[..]);
+    assert!(rt; proof.outer.as_slice() == &PROOF[..]);
+    assert!(rt; root_after_update(&ROOT, 6, 1, 3, &proof, &[9; 128]) == Some(CHANGED_ROOT));
+    assert!(rt; root_after_update(&CHANGED_ROOT, 6, 1, 3, &proof, &[9; 128]).is_none());
+    assert!(rt; root_after_update(&ROOT, 6, 2, 4, &proof, &[9; 128]).is_none());
     Ok(())
 }
