@@ -24,7 +24,7 @@ mod soundness;
 mod stack;
 mod whole;
 
-pub use hashing::{leaf_hash, node_hash};
+pub use hashing::{leaf_hash, node, node_hash};
 pub use leaf_proof::{check_leaf, prove_leaf};
 pub use nodes::{Nodes, PlainNodes};
 pub use soundness::another_leaf_collides;

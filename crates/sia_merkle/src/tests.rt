@@ -175,5 +175,7 @@ fn counted_node<L: Ledger>(left: &Hash, right: &Hash, blank: Blank) -> Hash
 fn a_node_is_the_root_over_its_two_parts(rt: HostRuntime) {
     let left = leaf_hash(b"left");
     let right = leaf_hash(b"right");
-    assert!(rt; counted_node::<Brand>(&left, &right, Blank::new(1)) == node_root(&[left, right]));
+    let root = node_root(&[left, right]);
+    assert!(rt; node(&left, &right) == root);
+    assert!(rt; counted_node::<Brand>(&left, &right, Blank::new(1)) == root);
 }

@@ -85,8 +85,8 @@ fn part_root(hashes: &[Hash]) -> Hash
     }
 }
 
-/// The root over the leaves of a byte string; 32 zero bytes for no bytes.
-pub fn root(bytes: &[u8]) -> Hash
+/// The root over groups of leaves.
+fn root_by_leaf_group(bytes: &[u8]) -> Hash
     ensures { result ≡ root_of (leaves_of bytes.now) }
 {
     let mut stack = RootStack::new();
@@ -96,8 +96,8 @@ pub fn root(bytes: &[u8]) -> Hash
     stack.root()
 }
 
-/// The root over hashes, which may be those of leaves or the roots of subtrees of one height; 32 zero bytes for none.
-pub fn node_root(hashes: &[Hash]) -> Hash
+/// The root over groups of hashes.
+fn root_by_group(hashes: &[Hash]) -> Hash
     ensures { result ≡ node_root_of hashes.now }
 {
     let mut stack = RootStack::new();
@@ -105,6 +105,28 @@ pub fn node_root(hashes: &[Hash]) -> Hash
         stack.push_hash(&part_root(group_of(hashes, place)));
     }
     stack.root()
+}
+
+/// The root over the leaves of a byte string; 32 zero bytes for no bytes.
+pub fn root(bytes: &[u8]) -> Hash
+    ensures { result ≡ root_of (leaves_of bytes.now) }
+{
+    if bytes.len() <= GROUP_LEN {
+        leaf_part_root(bytes)
+    } else {
+        root_by_leaf_group(bytes)
+    }
+}
+
+/// The root over hashes, which may be those of leaves or the roots of subtrees of one height; 32 zero bytes for none.
+pub fn node_root(hashes: &[Hash]) -> Hash
+    ensures { result ≡ node_root_of hashes.now }
+{
+    if hashes.len() <= GROUP {
+        part_root(hashes)
+    } else {
+        root_by_group(hashes)
+    }
 }
 
 /// The law of the split: the root over more than one hash is the node over the roots of its two parts, of which the left

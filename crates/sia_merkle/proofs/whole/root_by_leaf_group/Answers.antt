@@ -3,7 +3,7 @@ use Rattle.sia_merkle.specs.Levels.{pairs, levels_up}
 use Rattle.sia_merkle.specs.Roots.{leaf_digest, leaves_of, node_root_of}
 use Rattle.sia_merkle.proofs.Cuts.{length-leaf_hashes}
 use Rattle.sia_merkle.proofs.Fours.{group_pushed, groups_before, all_groups}
-use Rattle.sia_merkle.proofs.whole.root.Goals as goal
+use Rattle.sia_merkle.proofs.whole.root_by_leaf_group.Goals as goal
 
 pub loop-place-init : goal.loop-place-init
 unfolding levels_up pairs

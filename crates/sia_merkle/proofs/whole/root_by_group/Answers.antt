@@ -3,7 +3,7 @@ use Rattle.sia_merkle.specs.Levels.{pairs, levels_up}
 use Rattle.sia_merkle.specs.Roots.{node_root_of}
 use Rattle.sia_merkle.proofs.Fours.{groups_before, hashes_pushed}
 use Rattle.sia_merkle.proofs.Raises.{up_all}
-use Rattle.sia_merkle.proofs.whole.node_root.Goals as goal
+use Rattle.sia_merkle.proofs.whole.root_by_group.Goals as goal
 
 pub loop-place-init : goal.loop-place-init
 unfolding levels_up pairs
