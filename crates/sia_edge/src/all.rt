@@ -1,5 +1,5 @@
 //! A source read to its end, and a piece written whole.
-ghost use Rattle.std.specs.Prelude.{◌≡◌, ◌≤◌, ◌<◌, ◌^◌, IfSome, OnOk, OnErr};
+ghost use Rattle.std.specs.Prelude.{◌≡◌, ◌≤◌, ◌<◌, ◌^◌, IfSome, OnOk, OnErr, Some, []};
 ghost use Rattle.std.specs.Io.KnownBytes.{Appends};
 ghost use Rattle.sia_edge.specs.Edge.{Rose};
 ghost use Rattle.sia_edge.specs.Whole.{EndsAs, AppendsSomeOf};
@@ -8,7 +8,7 @@ use crate::{Got, Put, Sink, Source};
 use sia_encoding::Blob;
 
 /// How many bytes are asked for at once.
-const CHUNK: usize = 4096;
+const CHUNK: usize = 65_536;
 
 /// How reading to a bound ended.
 #[derive(Clone, Copy, Debug, PartialEq, Eq)]
@@ -29,10 +29,11 @@ pub struct WriteFailed;
 
 /// Appends to `out` all that the source has left, where that is at most `bound` bytes. It answers `Long` exactly where
 /// there is more, unless a read fails or memory is short before. After another answer than `Whole`, `out` has grown by
-/// some first bytes of what was left.
+/// some first bytes of what was left. After `Whole` it has nothing left.
 pub fn read_to_bound<S: Source>(source: &mut S, out: &mut Blob, bound: u64) -> Ending
     requires { bound < 2 ^ 60 }
     ensures bytes { IfSome (S.left source.old) (λ left. EndsAs result bound out.old out.new left) }
+    ensures end { result ≡ Ending.Whole → IfSome (S.left source.old) (λ _. S.left source.new ≡ Some []) }
     ensures later { S.faults source.old ≤ S.faults source.new }
     ensures failed { result ≡ Ending.Failed → Rose (S.faults source.old) (S.faults source.new) }
 {

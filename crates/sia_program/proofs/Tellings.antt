@@ -20,6 +20,8 @@ OfOutcome-weaker form.Ledger (Some c) None P Q weaker told = tt
 OfOutcome-weaker form.Ledger None input P Q weaker told = tt
 OfOutcome-weaker form.Root config (Some file) P Q weaker told = weaker _ told
 OfOutcome-weaker form.Root config None P Q weaker told = tt
+OfOutcome-weaker (form.Prove start end) config (Some file) P Q weaker told = weaker _ told
+OfOutcome-weaker (form.Prove start end) config None P Q weaker told = tt
 
 -- no end has the status of words without a form
 pub status_of-form : {A : Type 0} (end : Result A Stop) → status_of end ≡ 1 → ⊥

@@ -1,10 +1,11 @@
 -- What a command answers, and what it leaves in the outside.
-use Rattle.std.specs.Prelude.{◌≡◌, ℕ, List, Option, Result, Ok, Err, ◌⊎◌}
+use Rattle.std.specs.Prelude.{◌≡◌, ℕ, List, [], Option, Some, IfSome, Result, Ok, Err, ◌⊎◌, true}
 use Rattle.std.specs.Io.KnownBytes.{Keeps, Appends}
 use Rattle.sia_edge.specs.Whole.{AppendsSomeOf}
 use Rattle.sia_program.specs.declared.form.Form.{Form}
 use Rattle.sia_program.specs.declared.stop.Stop.{Stop}
 use Rattle.sia_program.specs.declared.stop.Stop.TheVariants as stop
+use Rattle.sia_program.specs.Form.{names_config}
 use Rattle.sia_program.specs.Outcome.{OfOutcome}
 use Rattle.sia_program.specs.Texts.{stop_line}
 
@@ -32,6 +33,14 @@ Ended (Err (stop.Refused case)) outcome old new = (outcome ≡ Err (stop.Refused
 Ended (Err stop.Long) outcome old new = (outcome ≡ Err stop.Long) × Keeps old new
 Ended (Err stop.Outside) outcome old new = Keeps old new ⊎ ((text : List ℕ) × (outcome ≡ Ok text) × AppendsSomeOf old new text)
 Ended (Err stop.Memory) outcome old new = Keeps old new
+
+-- a source of told bytes has none left
+abbrev pub ReadToEnd : Option (List ℕ) → Option (List ℕ) → Type 0
+ReadToEnd old new = IfSome old (λ left. new ≡ Some [])
+
+-- each source that a form's words name has none left
+abbrev pub ReadToEnds : Form → Option (List ℕ) → Option (List ℕ) → Option (List ℕ) → Option (List ℕ) → Type 0
+ReadToEnds form config_old config_new input_old input_new = (names_config form ≡ true → ReadToEnd config_old config_new) × ReadToEnd input_old input_new
 
 -- `err` took a line, or a front part of it where the write failed
 abbrev pub Tells : List ℕ → Option (List ℕ) → Option (List ℕ) → Type 0 → Type 0

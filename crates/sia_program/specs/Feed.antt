@@ -3,7 +3,7 @@
 use Rattle.std.specs.Prelude.{ℕ, zero, suc, ◌+◌, List, [], ◌∷◌, length, slice_index, ◌==◌, if◌then◌else◌, Option, Some, None, Result, Ok, Err}
 use Rattle.sia_encoding.specs.Reading.{Spot, fixed_at}
 use Rattle.sia_ledger.specs.declared.block.Block.{Block}
-use Rattle.sia_ledger.specs.Reading.{thin_block_at}
+use Rattle.sia_ledger.specs.Reading.{bare_block_at}
 use Rattle.sia_program.specs.declared.feed.Entry.{Entry}
 use Rattle.sia_program.specs.declared.feed.Entry.TheVariants as entry
 use Rattle.sia_program.specs.declared.stop.Refusal.{Refusal}
@@ -22,7 +22,7 @@ with_one_payout (Some block) = if length block.payouts == 1 then Ok block else E
 -- a block, as a record
 unfoldable pub block_entry_at : Spot → Result (Entry × Spot) Refusal
 block_entry_at s = do
-  read ← or_bad_form (thin_block_at s)
+  read ← or_bad_form (bare_block_at s)
   block ← with_one_payout read.0
   Ok (entry.Apply block, read.1)
 

@@ -1,11 +1,12 @@
 -- What the commands are to do with the bytes of what their words name.
-use Rattle.std.specs.Prelude.{ℕ, ◌^◌, List, [], ◌∷◌, length, nat_le, ◌==◌, if◌then◌else◌, Option, Some, None, IfSome, Result, Ok, Err}
+use Rattle.std.specs.Prelude.{ℕ, ◌^◌, List, [], ◌∷◌, length, map, nat_le, nat_lt, ◌==◌, ◌&&◌, if◌then◌else◌, Option, Some, None, IfSome, Result, Ok, Err}
 use Rattle.sia_ledger.specs.declared.fault.BlockFault.{BlockFault}
 use Rattle.sia_ledger.specs.declared.block.Block.{Block}
 use Rattle.sia_ledger.specs.Chain.{Chain, height, begun, extended, shortened}
 use Rattle.sia_ledger.specs.Holdings.{tip, sums_of}
 use Rattle.sia_ledger.specs.Refusal.{refusal as refusal_of}
-use Rattle.sia_merkle.specs.Roots.{leaf_count, leaves_of, root_of}
+use Rattle.sia_merkle.specs.Roots.{leaf_count, leaf_digest, leaves_of, root_of}
+use Rattle.sia_merkle.specs.Segments.{cover, others, places_between, segment_roots}
 use Rattle.sia_program.specs.declared.feed.Entry.{Entry}
 use Rattle.sia_program.specs.declared.feed.Entry.TheVariants as entry
 use Rattle.sia_program.specs.declared.form.Form.{Form}
@@ -17,7 +18,7 @@ use Rattle.sia_program.specs.declared.stop.Stop.TheVariants as stop
 use Rattle.sia_program.specs.Config.{config_of}
 use Rattle.sia_program.specs.Feed.{entries_of}
 use Rattle.sia_program.specs.Steps.{◌>>=◌, or_config_refused, or_refused}
-use Rattle.sia_program.specs.Texts.{root_text, sums_text}
+use Rattle.sia_program.specs.Texts.{prove_text, root_text, sums_text}
 
 -- a block behind a chain, or the rule that it breaks
 abbrev pub judged : Chain → Block → Option BlockFault → Result Chain Refusal
@@ -71,6 +72,22 @@ root_outcome file = do
   bytes ← within (2 ^ 30) file
   Ok (root_text (root_of (leaves_of bytes)) (leaf_count (length bytes)) (length bytes))
 
+-- The proof of the leaves from start to end, without end, of a byte string: the roots of the largest subtrees that cover all
+-- other leaves, from left to right. A range without leaves, or past the last leaf, is refused.
+unfoldable pub range_proof : List ℕ → ℕ → ℕ → Result (List (List ℕ)) Refusal
+range_proof bytes start end =
+    if nat_lt start end && nat_le end (leaf_count (length bytes))
+    then Ok (segment_roots (map leaf_digest (leaves_of bytes)) (cover (others (places_between start end)) (leaf_count (length bytes))))
+    else Err refusal.Range
+
+-- the text that `prove` prints for the leaves from start to end of a file of at most 2^30 bytes. The file is read before the
+-- range is judged.
+unfoldable pub prove_outcome : ℕ → ℕ → List ℕ → Result (List ℕ) Stop
+prove_outcome start end file = do
+  bytes ← within (2 ^ 30) file
+  hashes ← or_refused (range_proof bytes start end)
+  Ok (prove_text (root_of (leaves_of bytes)) (leaf_count (length bytes)) hashes)
+
 -- a fact of the bytes of two sources, where both are told
 abbrev pub IfTold : Option (List ℕ) → Option (List ℕ) → (List ℕ → List ℕ → Type 0) → Type 0
 IfTold (Some first) (Some second) P = P first second
@@ -78,7 +95,8 @@ IfTold (Some first) None P = Unit {0}
 IfTold None second P = Unit {0}
 
 -- A fact of what a form's words are to give, where the bytes that they name are told: a configuration and an input, of
--- which `root` has the input alone.
+-- which `root` and `prove` have the input alone.
 abbrev pub OfOutcome : Form → Option (List ℕ) → Option (List ℕ) → (Result (List ℕ) Stop → Type 0) → Type 0
 OfOutcome form.Ledger config input P = IfTold config input (λ c f. P (ledger_outcome c f))
 OfOutcome form.Root config input P = IfSome input (λ file. P (root_outcome file))
+OfOutcome (form.Prove start end) config input P = IfSome input (λ file. P (prove_outcome start end file))

@@ -1,5 +1,5 @@
 -- What is printed: ASCII lines that end with a line feed. Numbers are decimal, hashes 64 lower-case hexadecimal digits.
-use Rattle.std.specs.Prelude.{ℕ, ◌+◌, List, [], ◌++◌, codes, decimal}
+use Rattle.std.specs.Prelude.{ℕ, ◌+◌, List, [], ◌∷◌, ◌++◌, codes, decimal}
 use Rattle.hex.specs.Hex.{encode_lower}
 use Rattle.sia_ledger.specs.declared.sums.Sums.{Sums}
 use Rattle.sia_ledger.specs.declared.fault.BlockFault.{BlockFault}
@@ -31,6 +31,19 @@ sums_text sums tip =
 unfoldable pub root_text : List ℕ → ℕ → ℕ → List ℕ
 root_text root leaves bytes = codes "root " ++ (encode_lower root ++ (codes " leaves " ++ (decimal leaves ++ (codes " bytes " ++ (decimal bytes ++ codes "\n")))))
 
+-- a line for each hash of a proof, in order
+unfoldable pub hash_lines : List (List ℕ) → List ℕ
+hash_lines [] = []
+hash_lines (hash ∷ hashes) = line (codes "hash") (encode_lower hash) ++ hash_lines hashes
+
+-- the root of a file and how many leaves it has
+unfoldable pub leaves_line : List ℕ → ℕ → List ℕ
+leaves_line root leaves = codes "root " ++ (encode_lower root ++ (codes " leaves " ++ (decimal leaves ++ codes "\n")))
+
+-- the same, and then the hashes of a range's proof
+unfoldable pub prove_text : List ℕ → ℕ → List (List ℕ) → List ℕ
+prove_text root leaves hashes = leaves_line root leaves ++ hash_lines hashes
+
 -- a refusal of a block: its number, its name, and its fields in order. `Memory` is no refusal and isn't printed.
 unfoldable pub block_fault_text : BlockFault → List ℕ
 block_fault_text (block_fault.BadParent tip) = codes "B1 BadParent " ++ encode_lower tip
@@ -51,6 +64,7 @@ refusal_text (refusal.ConfigKey key) = codes "config " ++ key_text key
 refusal_text refusal.FeedForm = codes "feed form"
 refusal_text (refusal.Block tip_height fault) = codes "block " ++ (decimal (tip_height + 1) ++ (codes " " ++ block_fault_text fault))
 refusal_text refusal.NoBlock = codes "feed NoBlock"
+refusal_text refusal.Range = codes "range"
 
 -- the line on standard error where the words have no form
 abbrev pub usage_line : List ℕ

@@ -1,19 +1,20 @@
 //! The commands that read their input whole, and print a text.
-ghost use Rattle.std.specs.Prelude.{◌↔◌, ◌≡◌, ◌≢◌, ◌≤◌, ◌<◌, ◌^◌, ◌⊎◌, Err, Some, None, IfSome, string_bytes};
+ghost use Rattle.std.specs.Prelude.{◌↔◌, ◌≡◌, ◌≢◌, ◌≤◌, ◌<◌, ◌^◌, ◌⊎◌, Err, Some, None, IfSome, OnOk, false, string_bytes};
 ghost use Rattle.std.specs.Io.KnownBytes.{Keeps, Appends};
 ghost use Rattle.sia_edge.specs.Edge.{Rose};
 ghost use Rattle.sia_program.specs.Steps.{Finds};
 ghost use Rattle.sia_program.specs.Texts.{usage_line};
-ghost use Rattle.sia_program.specs.Form.{form_of};
-ghost use Rattle.sia_program.specs.Outcome.{within, begin, finish, ledger_outcome, root_outcome, IfTold, OfOutcome};
-ghost use Rattle.sia_program.specs.Answer.{status_of, Ended, IsQuiet, Tells, TellsReason, Answered};
+ghost use Rattle.sia_program.specs.Form.{form_of, names_config};
+ghost use Rattle.sia_program.specs.Outcome.{within, begin, finish, ledger_outcome, prove_outcome, root_outcome, IfTold, OfOutcome};
+ghost use Rattle.sia_program.specs.Answer.{status_of, Ended, IsQuiet, ReadToEnd, ReadToEnds, Tells, TellsReason, Answered};
 
 use crate::config::read_config;
 use crate::feed::read_feed;
 use crate::form::{Form, read_form};
+use crate::range::range_proof;
 use crate::run::{begin_ledger, run_entries};
 use crate::stop::Stop;
-use crate::texts::{refused_line, root_text, sums_text};
+use crate::texts::{prove_text, refused_line, root_text, sums_text};
 use sia_edge::{Ending, Sink, Source, read_to_bound, write_all};
 use sia_encoding::Blob;
 use sia_ledger::Ledger;
@@ -31,6 +32,7 @@ const INPUT_BOUND: u64 = 1_073_741_824;
 fn read_within<S: Source>(alloc: Global, source: &mut S, bound: u64) -> Result<Blob, Stop>
     requires { bound < 2 ^ 60 }
     ensures told { IfSome (S.left source.old) (λ left. Finds (λ bytes. bytes) result (within bound left)) }
+    ensures ended { OnOk result (ReadToEnd (S.left source.old) (S.left source.new)) }
     ensures later { S.faults source.old ≤ S.faults source.new }
     ensures failed { result ≡ Err Stop.Outside → Rose (S.faults source.old) (S.faults source.new) }
 {
@@ -47,6 +49,7 @@ fn read_within<S: Source>(alloc: Global, source: &mut S, bound: u64) -> Result<B
 #[tactic(auto, unfolding(crate::specs::Outcome::begin))]
 fn begin_from<S: Source>(alloc: Global, config: &mut S) -> Result<Ledger, Stop>
     ensures told { IfSome (S.left config.old) (λ left. Finds (λ ledger. ledger) result (begin left)) }
+    ensures ended { OnOk result (ReadToEnd (S.left config.old) (S.left config.new)) }
     ensures later { S.faults config.old ≤ S.faults config.new }
     ensures failed { result ≡ Err Stop.Outside → Rose (S.faults config.old) (S.faults config.new) }
 {
@@ -60,6 +63,7 @@ fn begin_from<S: Source>(alloc: Global, config: &mut S) -> Result<Ledger, Stop>
 #[tactic(auto, unfolding(crate::specs::Outcome::finish))]
 fn finish_with<S: Source>(alloc: Global, mut ledger: Ledger, input: &mut S) -> Result<String, Stop>
     ensures told { IfSome (S.left input.old) (λ left. Finds string_bytes result (finish ledger left)) }
+    ensures ended { OnOk result (ReadToEnd (S.left input.old) (S.left input.new)) }
     ensures later { S.faults input.old ≤ S.faults input.new }
     ensures failed { result ≡ Err Stop.Outside → Rose (S.faults input.old) (S.faults input.new) }
 {
@@ -74,6 +78,8 @@ fn finish_with<S: Source>(alloc: Global, mut ledger: Ledger, input: &mut S) -> R
 #[tactic(auto, unfolding(crate::specs::Outcome::ledger_outcome))]
 fn text_of_ledger<S: Source>(alloc: Global, config: &mut S, input: &mut S) -> Result<String, Stop>
     ensures told { IfTold (S.left config.old) (S.left input.old) (λ c f. Finds string_bytes result (ledger_outcome c f)) }
+    ensures config_ended { OnOk result (ReadToEnd (S.left config.old) (S.left config.new)) }
+    ensures input_ended { OnOk result (ReadToEnd (S.left input.old) (S.left input.new)) }
     ensures failed { result ≡ Err Stop.Outside →
         Rose (S.faults config.old) (S.faults config.new) ⊎ Rose (S.faults input.old) (S.faults input.new) }
     ensures config_later { S.faults config.old ≤ S.faults config.new }
@@ -88,6 +94,7 @@ fn text_of_ledger<S: Source>(alloc: Global, config: &mut S, input: &mut S) -> Re
 #[tactic(auto, unfolding(crate::specs::Outcome::root_outcome))]
 fn text_of_root<S: Source>(alloc: Global, input: &mut S) -> Result<String, Stop>
     ensures told { IfSome (S.left input.old) (λ left. Finds string_bytes result (root_outcome left)) }
+    ensures ended { OnOk result (ReadToEnd (S.left input.old) (S.left input.new)) }
     ensures later { S.faults input.old ≤ S.faults input.new }
     ensures failed { result ≡ Err Stop.Outside → Rose (S.faults input.old) (S.faults input.new) }
 {
@@ -98,7 +105,27 @@ fn text_of_root<S: Source>(alloc: Global, input: &mut S) -> Result<String, Stop>
     Ok(text)
 }
 
-/// What a form prints. `root` doesn't touch the configuration.
+/// What `prove` prints: the root of a file, how many leaves it has, and the hashes that prove a range of them.
+#[tactic(auto, unfolding(crate::specs::Outcome::prove_outcome))]
+fn text_of_prove<S: Source>(
+    alloc: Global,
+    start: u64,
+    end: u64,
+    input: &mut S,
+) -> Result<String, Stop>
+    ensures told { IfSome (S.left input.old) (λ left. Finds string_bytes result (prove_outcome start end left)) }
+    ensures ended { OnOk result (ReadToEnd (S.left input.old) (S.left input.new)) }
+    ensures later { S.faults input.old ≤ S.faults input.new }
+    ensures failed { result ≡ Err Stop.Outside → Rose (S.faults input.old) (S.faults input.new) }
+{
+    let bytes = read_within(alloc, input, INPUT_BOUND)?;
+    let hashes = range_proof(alloc, bytes.as_slice(), start, end)?;
+    let hash = root(bytes.as_slice());
+    let text = prove_text(alloc, &hash, leaves(bytes.len() as u64), hashes.as_slice())?;
+    Ok(text)
+}
+
+/// What a form prints. The configuration is touched only where the form names one.
 fn text_of<S: Source>(
     alloc: Global,
     form: Form,
@@ -106,7 +133,8 @@ fn text_of<S: Source>(
     input: &mut S,
 ) -> Result<String, Stop>
     ensures told { OfOutcome form (S.left config.old) (S.left input.old) (λ given. Finds string_bytes result given) }
-    ensures unread { form ≡ Form.Root → config.new ≡ config.old }
+    ensures ended { OnOk result (ReadToEnds form (S.left config.old) (S.left config.new) (S.left input.old) (S.left input.new)) }
+    ensures unread { names_config form ≡ false → config.new ≡ config.old }
     ensures failed { result ≡ Err Stop.Outside →
         Rose (S.faults config.old) (S.faults config.new) ⊎ Rose (S.faults input.old) (S.faults input.new) }
     ensures config_later { S.faults config.old ≤ S.faults config.new }
@@ -115,6 +143,7 @@ fn text_of<S: Source>(
     match form {
         Form::Ledger => text_of_ledger(alloc, config, input),
         Form::Root => text_of_root(alloc, input),
+        Form::Prove { start, end } => text_of_prove(alloc, start, end, input),
     }
 }
 
@@ -128,7 +157,8 @@ fn print<S: Source, K: Sink>(
 ) -> Result<(), Stop>
     ensures told { OfOutcome form (S.left config.old) (S.left input.old)
         (λ given. Ended result given (K.taken out.old) (K.taken out.new)) }
-    ensures unread { form ≡ Form.Root → config.new ≡ config.old }
+    ensures ended { OnOk result (ReadToEnds form (S.left config.old) (S.left config.new) (S.left input.old) (S.left input.new)) }
+    ensures unread { names_config form ≡ false → config.new ≡ config.old }
     ensures quiet { IsQuiet result (K.taken out.old) (K.taken out.new) }
     ensures failed { result ≡ Err Stop.Outside →
         Rose (S.faults config.old) (S.faults config.new)
@@ -192,13 +222,16 @@ fn tell<K: Sink>(alloc: Global, stop: Stop, err: &mut K) -> u8
 ///   applies the feed to the chain that the configuration begins, and writes the sums to `out`.
 /// - `root FILE`: `input` gives the bytes of FILE, at most 2^30. It writes the file's Merkle root, the count of its leaves
 ///   and that of its bytes to `out`. `config` isn't read.
+/// - `prove FILE A B`: the same, and A and B are decimal numbers below 2^64 without sign or leading zero. It writes the
+///   file's Merkle root, the count of its leaves, and the hashes that prove the leaves from A to B, without B, to `out`. A
+///   range that isn't A < B ≤ the count of leaves is refused.
 ///
 /// Nothing is written to `out` before the whole input was accepted.
 ///
-/// | Status | Exactly where | Line on `err` |
+/// | Status | Comes where | Line on `err` |
 /// |---|---|---|
 /// | 0 | the text was written | none |
-/// | 1 | the words have no form | `sia-v1: usage` |
+/// | 1 | exactly where the words have no form | `sia-v1: usage` |
 /// | 2 | the configuration or the input is refused | `sia-v1: refused` and the case |
 /// | 3 | a read, or a write to `out`, failed | `sia-v1: outside fault` |
 /// | 5 | memory ran out | `sia-v1: no memory` |
@@ -216,7 +249,7 @@ pub fn run_plain<S: Source, K: Sink>(
     // Status 1 is exactly that of words without a form. Then nothing is read, and nothing written but the usage.
     ensures usage { (result ≡ 1) ↔ (form_of words.now ≡ None) }
     ensures unnamed { form_of words.now ≡ None →
-        Keeps (K.taken out.old) (K.taken out.new) ×
+        (config.new ≡ config.old) × (input.new ≡ input.old) × Keeps (K.taken out.old) (K.taken out.new) ×
         Tells usage_line (K.taken err.old) (K.taken err.new) (Rose (K.faults err.old) (K.faults err.new)) }
 
     // What the status says of the bytes that were read, and what `out` and `err` took.
@@ -225,8 +258,12 @@ pub fn run_plain<S: Source, K: Sink>(
         (K.taken out.old) (K.taken out.new)
         (K.taken err.old) (K.taken err.new) (Rose (K.faults err.old) (K.faults err.new)) }
 
-    // `root` leaves the configuration as it was.
-    ensures unread { form_of words.now ≡ Some Form.Root → config.new ≡ config.old }
+    // At status 0 what the words name was read to its end.
+    ensures ended { result ≡ 0 → (form : Form) → form_of words.now ≡ Some form →
+        ReadToEnds form (S.left config.old) (S.left config.new) (S.left input.old) (S.left input.new) }
+
+    // Words that name no configuration leave it as it was.
+    ensures unread { (form : Form) → form_of words.now ≡ Some form → names_config form ≡ false → config.new ≡ config.old }
 
     // Status 3 has its cause in the outside.
     ensures outside { result ≡ 3 →

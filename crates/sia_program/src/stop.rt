@@ -24,6 +24,8 @@ pub enum Refusal {
     },
     /// A revert of the feed, at the genesis.
     NoBlock,
+    /// The range to prove has no leaf, or ends past the last one.
+    Range,
 }
 
 /// Why bytes that were read give no answer.

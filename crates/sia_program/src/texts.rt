@@ -4,6 +4,7 @@ ghost use Rattle.std.specs.Prelude.{◌≡◌, ◌++◌, IfOk, OnOk, string_byte
 ghost use Rattle.hex.specs.Hex.{encode_lower};
 ghost use Rattle.sia_program.specs.Texts.{line, key_text, stop_line};
 ghost use Rattle.sia_program.specs.Texts.{sums_text as sums_text_of, block_fault_text as block_fault_text_of, refusal_text as refusal_text_of, root_text as root_text_of};
+ghost use Rattle.sia_program.specs.Texts.{hash_lines, leaves_line as leaves_line_of, prove_text as prove_text_of};
 
 use crate::config::ConfigKey;
 use crate::stop::{Refusal, Stop};
@@ -58,6 +59,41 @@ pub fn root_text(alloc: Global, root: &Hash, leaves: u64, bytes: u64) -> Result<
     format!(in alloc; "root {root} leaves {leaves} bytes {bytes}\n")
 }
 
+/// The line of a file's root and the count of its leaves.
+#[tactic(auto, unfolding(crate::specs::Texts::leaves_line))]
+fn leaves_line(alloc: Global, root: &Hash, leaves: u64) -> Result<String, AllocError>
+    ensures { IfOk result (λ text. string_bytes text ≡ leaves_line_of root.now leaves) }
+{
+    let root = hash_text(alloc, root)?;
+    format!(in alloc; "root {root} leaves {leaves}\n")
+}
+
+/// A line for each hash, in order.
+fn put_hashes(alloc: Global, out: &mut String, hashes: &[Hash]) -> Result<(), AllocError>
+    ensures { OnOk result (string_bytes out.new ≡ string_bytes out.old ++ hash_lines hashes.now) }
+{
+    for hash in hashes {
+        let text = hash_text(alloc, hash)?;
+        put_text(out, "hash", text.as_str())?;
+    }
+    Ok(())
+}
+
+/// The line of a file's root and the count of its leaves, and a line for each hash of a proof.
+#[tactic(auto, unfolding(crate::specs::Texts::prove_text))]
+pub fn prove_text(
+    alloc: Global,
+    root: &Hash,
+    leaves: u64,
+    hashes: &[Hash],
+) -> Result<String, AllocError>
+    ensures { IfOk result (λ text. string_bytes text ≡ prove_text_of root.now leaves hashes.now) }
+{
+    let mut out = leaves_line(alloc, root, leaves)?;
+    put_hashes(alloc, &mut out, hashes)?;
+    Ok(out)
+}
+
 /// A refusal of a block: its number, its name, and its fields in order.
 #[tactic(auto, unfolding(crate::specs::Texts::block_fault_text))]
 fn block_fault_text(alloc: Global, fault: &BlockFault) -> Result<String, AllocError>
@@ -105,6 +141,7 @@ fn refusal_text(alloc: Global, refusal: &Refusal) -> Result<String, AllocError>
             format!(in alloc; "block {height} {fault}")
         }
         Refusal::NoBlock => String::from_str(alloc, "feed NoBlock"),
+        Refusal::Range => String::from_str(alloc, "range"),
     }
 }
 

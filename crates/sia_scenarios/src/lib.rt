@@ -7,4 +7,6 @@ mod ledger;
 #[cfg(test)]
 mod memory;
 #[cfg(test)]
+mod prove;
+#[cfg(test)]
 mod root;

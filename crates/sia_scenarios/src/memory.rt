@@ -1,4 +1,4 @@
-//! Sources, sinks and words in memory.
+//! Sources, sinks, files and words in memory.
 use sia_edge::{MemSink, MemSource};
 use sia_encoding::{Blob, List};
 use std::alloc::Global;
@@ -23,4 +23,13 @@ pub fn words(alloc: Global, texts: &[&str]) -> Result<List<Blob>, Fail> {
         words.push(Blob::from_slice(alloc, text.as_bytes())?)?;
     }
     Ok(words)
+}
+
+/// The bytes of a file: each is its place modulo 251.
+pub fn file(alloc: Global, length: usize) -> Result<Vec<u8>, Fail> {
+    let mut bytes = Vec::new(alloc);
+    for place in 0..length {
+        bytes.push((place % 251) as u8)?;
+    }
+    Ok(bytes)
 }

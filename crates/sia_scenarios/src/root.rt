@@ -2,20 +2,11 @@
 //!
 //! The roots were computed by Python's hashlib and the recursion of the tree: the leaf's digest behind a byte 0, or the
 //! digest of both parts' roots behind a byte 1, the left part having the largest power of two of leaves below their number.
-use crate::memory::{sink, source, words};
+use crate::memory::{file, sink, source, words};
 use sia_program::run_plain;
 use std::alloc::Global;
 use std::process::Abort;
 use std::test::Fail;
-
-/// The bytes of a file: each is its place modulo 251.
-fn file(alloc: Global, length: usize) -> Result<Vec<u8>, Fail> {
-    let mut bytes = Vec::new(alloc);
-    for place in 0..length {
-        bytes.push((place % 251) as u8)?;
-    }
-    Ok(bytes)
-}
 
 /// Runs `root FILE` over a file of this length, with a configuration whose first read fails.
 fn check(

@@ -5,7 +5,7 @@
 
 use sia_edge::{FileSource, StdSink, write_all};
 use sia_encoding::{Blob, List};
-use sia_program::run_plain;
+use sia_program::{Form, read_form, run_plain};
 use std::alloc::{AllocError, Global};
 use std::env::{Env, FillError};
 use std::fs::File;
@@ -43,14 +43,14 @@ fn arguments<R: Env>(rt: &R, alloc: Global) -> Result<List<Blob>, AllocError> {
 }
 
 /// The files that the words name: a configuration and an input, or an input alone. One that isn't named or doesn't open
-/// fails at its first read.
+/// fails at its first read. Words without a form name none.
 fn open_files<R: Files<File = File>>(rt: &R, words: &[Blob]) -> (FileSource, FileSource) {
-    match words {
-        [_, config, input] => (
+    match (read_form(words), words) {
+        (Some(Form::Ledger), [_, config, input]) => (
             FileSource::open(rt, config.as_slice()),
             FileSource::open(rt, input.as_slice()),
         ),
-        [_, input] => (FileSource::empty(), FileSource::open(rt, input.as_slice())),
+        (Some(_), [_, input, ..]) => (FileSource::empty(), FileSource::open(rt, input.as_slice())),
         _ => (FileSource::empty(), FileSource::empty()),
     }
 }

@@ -1,9 +1,9 @@
-use Rattle.std.proofs.Common.{◌≡◌, Err, ap}
+use Rattle.std.proofs.Common.{◌≡◌, Err, ap, refl}
 use Rattle.sia_program.proofs.Tellings.{Keeps-same, answered_done, answered_stopped, stopped-outside, answered-completed}
 use Rattle.sia_program.proofs.plain.run_plain.Goals as goal
 
 pub returns-in_default-clause-unnamed : goal.returns-in_default-clause-unnamed
-returns-in_default-clause-unnamed g c form = (Keeps-same (g.K.Sink.taken c.args.out.now), rw c.as_bytes.ensures.value at c.write_line.ensures)
+returns-in_default-clause-unnamed g c form = (refl, refl, Keeps-same (g.K.Sink.taken c.args.out.now), rw c.as_bytes.ensures.value at c.write_line.ensures)
 
 pub returns-in-Err-clause-answered : goal.returns-in-Err-clause-answered
 returns-in-Err-clause-answered g c form named =
