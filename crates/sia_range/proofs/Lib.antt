@@ -1,6 +1,8 @@
+pub mod ByteLeaves
 pub mod Covers
 pub mod Joins
 pub mod Judging
+pub mod OwnAccepted
 pub mod OwnJoins
 pub mod OwnSegments
 pub mod OwnWholes

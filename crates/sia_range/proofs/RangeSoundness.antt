@@ -50,7 +50,7 @@ roots_sized hashes (segment ∷ segments) sized =
 pub part_length : {X : Type 0} (a b : ℕ) (list : List X) → a ≤ b → b ≤ length list → length (part_between a b list) ≡ b - a
 part_length a b list some within = length-take-le (b - a) (drop a list) (omega (arith, length-drop a list))
 
-own_given_joins : (count a b : ℕ) (inner : List Tree) (hashes : List (List ℕ)) → a < b → b ≤ count → length inner ≡ b - a
+pub own_given_joins : (count a b : ℕ) (inner : List Tree) (hashes : List (List ℕ)) → a < b → b ≤ count → length inner ≡ b - a
     → Joins (places_between a b) count inner (roots_outside hashes count a b) (range_tree count a b inner (roots_outside hashes count a b))
 own_given_joins count a b inner hashes some within fits = record {
   places = inner_count count a b inner some within fits;

@@ -75,14 +75,14 @@ after_root a b count part leaves outer some within is fits own =
     ∙ own_leaves_root a b count (replaced a b part leaves) (omega arith) within (is ∙ sym same)
 
 -- the computation from a list's own roots
-own_segments_joins : (count a b : ℕ) (hashes : List (List ℕ)) → JoinsSegments (places_between a b) count (roots_inside hashes count a b) (roots_outside hashes count a b) (segments_tree count a b (roots_inside hashes count a b) (roots_outside hashes count a b))
+pub own_segments_joins : (count a b : ℕ) (hashes : List (List ℕ)) → JoinsSegments (places_between a b) count (roots_inside hashes count a b) (roots_outside hashes count a b) (segments_tree count a b (roots_inside hashes count a b) (roots_outside hashes count a b))
 own_segments_joins count a b hashes = record {
   places = length-map (cover (places_between a b) count) (λ segment. segment_root hashes segment.level segment.index);
   segments = length-map (cover (others (places_between a b)) count) (λ segment. segment_root hashes segment.level segment.index);
   joined = segments_tree_is count a b (roots_inside hashes count a b) (roots_outside hashes count a b);
 }
 
-own_segments_root : (count a b : ℕ) (hashes : List (List ℕ)) → 0 < count → count ≡ length hashes → hash_of (segments_tree count a b (roots_inside hashes count a b) (roots_outside hashes count a b)) ≡ node_root_of hashes
+pub own_segments_root : (count a b : ℕ) (hashes : List (List ℕ)) → 0 < count → count ≡ length hashes → hash_of (segments_tree count a b (roots_inside hashes count a b) (roots_outside hashes count a b)) ≡ node_root_of hashes
 own_segments_root count a b hashes some is =
     ap hash_of (segments_tree_is count a b (roots_inside hashes count a b) (roots_outside hashes count a b))
     ∙ ap (λ n. hash_of (joined_segments_within (places_between a b) n n 0 (roots_inside hashes n a b) (roots_outside hashes n a b))) is

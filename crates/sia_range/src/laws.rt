@@ -1,10 +1,10 @@
-//! What an accepted proof of a range shows, as laws. The functions here do nothing: their contracts are the laws, and a
+//! What an accepted proof of a range shows, and that a list's own is accepted, as laws. The functions here do nothing: their contracts are the laws, and a
 //! caller that wants one calls its function.
-ghost use Rattle.std.specs.Prelude.{◌≡◌, ◌-◌, ◌<◌, ◌≤◌, ◌⊎◌, length, map};
+ghost use Rattle.std.specs.Prelude.{◌≡◌, ◌-◌, ◌*◌, ◌<◌, ◌≤◌, ◌⊎◌, length, map};
 ghost use Rattle.sia_merkle.specs.Computations.{Collides};
 ghost use Rattle.sia_merkle.specs.Computations.Tree.{Given, Leaf};
 ghost use Rattle.sia_merkle.specs.Roots.{leaf_count, leaf_digest, leaves_of, node_root_of, root_of};
-ghost use Rattle.sia_range.specs.Ranges.{IsOwnUpdate, IsRangeProof, IsUpdateOf, own_nodes_tree, own_range_tree, own_update_tree, part_between, range_tree, roots_outside, segments_tree};
+ghost use Rattle.sia_range.specs.Ranges.{IsOwnUpdate, IsRangeProof, IsUpdateOf, own_nodes_tree, own_range_tree, own_update_tree, part_between, range_tree, replaced, roots_inside, roots_outside, segments_tree};
 
 use sia_blake::Hash;
 
@@ -67,4 +67,39 @@ pub fn another_update_collides(
     requires accepted { IsUpdateOf _root.now (leaf_count (length _bytes.now)) _a _b _inner.now _outer.now }
     ensures { IsOwnUpdate _bytes.now _new.now _a _b _inner.now _outer.now
         ⊎ Collides (own_update_tree _bytes.now _a _b) (segments_tree (leaf_count (length _bytes.now)) _a _b _inner.now _outer.now) }
+{}
+
+/// A byte string's own bytes at the places of a range are accepted under its root, with the proof that [`prove_range`]
+/// makes.
+///
+/// [`prove_range`]: crate::prove_range
+pub fn own_range_is_accepted(_bytes: &[u8], _a: u64, _b: u64)
+    requires some { _a < _b }
+    requires within { _b ≤ leaf_count (length _bytes.now) }
+    ensures { IsRangeProof (root_of (leaves_of _bytes.now)) (leaf_count (length _bytes.now)) _a _b
+        (map Leaf (leaves_of (part_between (64 * _a) (64 * _b) _bytes.now))) (roots_outside (map leaf_digest (leaves_of _bytes.now)) (leaf_count (length _bytes.now)) _a _b) }
+{}
+
+/// The same of a list's own hashes.
+pub fn own_nodes_are_accepted(_list: &[Hash], _a: u64, _b: u64)
+    requires some { _a < _b }
+    requires within { _b ≤ length _list.now }
+    ensures { IsRangeProof (node_root_of _list.now) (length _list.now) _a _b (map Given (part_between _a _b _list.now)) (roots_outside _list.now (length _list.now) _a _b) }
+{}
+
+/// The roots of both covers of a byte string's leaves are accepted for an update under its root.
+pub fn own_update_is_accepted(_bytes: &[u8], _a: u64, _b: u64)
+    requires some { _a < _b }
+    requires within { _b ≤ leaf_count (length _bytes.now) }
+    ensures { IsUpdateOf (root_of (leaves_of _bytes.now)) (leaf_count (length _bytes.now)) _a _b
+        (roots_inside (map leaf_digest (leaves_of _bytes.now)) (leaf_count (length _bytes.now)) _a _b) (roots_outside (map leaf_digest (leaves_of _bytes.now)) (leaf_count (length _bytes.now)) _a _b) }
+{}
+
+/// The leaves of a byte string after an update: where whole leaves replace whole ones, or the range is the last one, the
+/// byte string with the new bytes in place has the new leaves in place of the old.
+pub fn leaves_after_update(_bytes: &[u8], _a: u64, _b: u64, _new: &[u8])
+    requires some { _a < _b }
+    requires within { _b ≤ leaf_count (length _bytes.now) }
+    requires whole { (_b ≡ leaf_count (length _bytes.now)) ⊎ (length _new.now ≡ 64 * (_b - _a)) }
+    ensures { leaves_of (replaced (64 * _a) (64 * _b) _new.now _bytes.now) ≡ replaced _a _b (leaves_of _new.now) (leaves_of _bytes.now) }
 {}

@@ -12,6 +12,8 @@
 //! - [`another_range_collides`], [`other_nodes_collide`], [`another_update_collides`]: where a list has the root, what is
 //!   accepted under that root is the list's own, and the root after an update that of the list after it, or a collision of
 //!   the digest is shown;
+//! - [`own_range_is_accepted`], [`own_nodes_are_accepted`], [`own_update_is_accepted`]: what a list has is accepted, with
+//!   the proof that is made of it;
 //! - checking takes no memory.
 //!
 //! It stands on sia_merkle for the tree, on sia_encoding for lists, and on sia_types for the proof of an update.
@@ -26,7 +28,10 @@ mod prove;
 mod update;
 
 pub use check::{check_nodes, check_range};
-pub use laws::{another_range_collides, another_update_collides, other_nodes_collide};
+pub use laws::{
+    another_range_collides, another_update_collides, leaves_after_update, other_nodes_collide,
+    own_nodes_are_accepted, own_range_is_accepted, own_update_is_accepted,
+};
 pub use prove::{prove_nodes, prove_range, prove_update};
 pub use update::root_after_update;
 

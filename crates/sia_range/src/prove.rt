@@ -1,8 +1,8 @@
 //! Makes the proof of a range: the roots of the subtrees that cover all other places.
 ghost use Rattle.std.specs.Prelude.{◌≡◌, ◌<◌, ◌≤◌, IfOk, length, map};
 ghost use Rattle.sia_merkle.specs.Roots.{leaf_count, leaf_digest, leaves_of};
-ghost use Rattle.sia_merkle.specs.Segments.{cover, others, places_between, segment_roots};
-ghost use Rattle.sia_range.specs.Ranges.{places_on};
+ghost use Rattle.sia_merkle.specs.Segments.{cover, segment_roots};
+ghost use Rattle.sia_range.specs.Ranges.{places_on, roots_inside, roots_outside};
 
 use crate::check::HEIGHT;
 use crate::cover::append_cover;
@@ -19,7 +19,7 @@ use std::alloc::{AllocError, Global};
 pub fn prove_range(alloc: Global, bytes: &[u8], a: u64, b: u64) -> Result<List<Hash>, AllocError>
     requires some { a < b }
     requires within { b ≤ leaf_count (length bytes.now) }
-    ensures { IfOk result (λ hashes. hashes ≡ segment_roots (map leaf_digest (leaves_of bytes.now)) (cover (others (places_between a b)) (leaf_count (length bytes.now)))) }
+    ensures { IfOk result (λ hashes. hashes ≡ roots_outside (map leaf_digest (leaves_of bytes.now)) (leaf_count (length bytes.now)) a b) }
 {
     prove_nodes(alloc, &LeafNodes { bytes }, a, b)
 }
@@ -33,7 +33,7 @@ pub fn prove_nodes<N: Nodes>(
 ) -> Result<List<Hash>, AllocError>
     requires some { a < b }
     requires within { b ≤ length (N.hashes nodes.now) }
-    ensures { IfOk result (λ hashes. hashes ≡ segment_roots (N.hashes nodes.now) (cover (others (places_between a b)) (length (N.hashes nodes.now)))) }
+    ensures { IfOk result (λ hashes. hashes ≡ roots_outside (N.hashes nodes.now) (length (N.hashes nodes.now)) a b) }
 {
     cover_roots(alloc, nodes, a, b, Side::Outside)
 }
@@ -43,8 +43,8 @@ pub fn prove_nodes<N: Nodes>(
 pub fn prove_update(alloc: Global, bytes: &[u8], a: u64, b: u64) -> Result<UpdateProof, AllocError>
     requires some { a < b }
     requires within { b ≤ leaf_count (length bytes.now) }
-    ensures inner { IfOk result (λ proof. proof.inner ≡ segment_roots (map leaf_digest (leaves_of bytes.now)) (cover (places_between a b) (leaf_count (length bytes.now)))) }
-    ensures outer { IfOk result (λ proof. proof.outer ≡ segment_roots (map leaf_digest (leaves_of bytes.now)) (cover (others (places_between a b)) (leaf_count (length bytes.now)))) }
+    ensures inner { IfOk result (λ proof. proof.inner ≡ roots_inside (map leaf_digest (leaves_of bytes.now)) (leaf_count (length bytes.now)) a b) }
+    ensures outer { IfOk result (λ proof. proof.outer ≡ roots_outside (map leaf_digest (leaves_of bytes.now)) (leaf_count (length bytes.now)) a b) }
 {
     let nodes = LeafNodes { bytes };
     let inner = cover_roots(alloc, &nodes, a, b, Side::Inside)?;
