@@ -1,5 +1,6 @@
 pub mod Collision
 pub mod Computations
+pub mod History
 pub mod Levels
 pub mod Paths
 pub mod Roots

@@ -1,30 +1,28 @@
 //! A list of hashes that only clauses read.
-ghost use Rattle.std.specs.Prelude.{◌≡◌, ℕ, List, [], ◌∷◌, ◌++◌};
-ghost use Rattle.std.specs.Borrow.{ftrue};
+ghost use Rattle.std.specs.Prelude.{◌≡◌, [], ◌∷◌, ◌++◌};
+ghost use Rattle.sia_merkle.specs.History.{pushed_hashes};
 
-use std::marker::{Model, PhantomData};
+use sia_blake::Hash;
+use std::snapshot::Snapshot;
 
-/// The hashes that were pushed. It has no bytes, and noting does nothing at run time.
+/// The hashes that were pushed. None of them is kept at run time, since a snapshot has no bytes.
 #[derive(Drop)]
-pub(crate) struct Pushed {
-    marker: PhantomData<u8>,
-    pub ghost hashes: { List (List ℕ) },
-}
-
-impl Model for Pushed {
-    ghost also_owns = { λ _. ftrue };
+pub(crate) enum Pushed {
+    Nothing,
+    Then {
+        before: Snapshot<Pushed>,
+        hash: Snapshot<Hash>,
+    },
 }
 
 impl Pushed {
-    pub(crate) fn new() -> Pushed
-        ensures { result.hashes ≡ [] }
+    /// These hashes and one more.
+    pub(crate) fn and(&self, hash: &Hash) -> Pushed
+        ensures { pushed_hashes result ≡ pushed_hashes self.now ++ hash.now ∷ [] }
     {
-        Pushed {
-            marker: PhantomData,
+        Pushed::Then {
+            before: Snapshot::of(self),
+            hash: Snapshot::of(hash),
         }
     }
-
-    pub(crate) fn note(&mut self, _hash: &[u8])
-        ensures { self.new.hashes ≡ self.old.hashes ++ _hash.now ∷ [] }
-    {}
 }

@@ -1,5 +1,6 @@
 //! The root of hashes that come one by one, in no memory but a slot for each height.
 ghost use Rattle.std.specs.Prelude.{◌≡◌, ℕ, ◌+◌, ◌<◌, ◌^◌, List, [], ◌∷◌, ◌++◌, length};
+ghost use Rattle.sia_merkle.specs.History.{pushed_hashes};
 ghost use Rattle.sia_merkle.specs.Roots.{leaf_digest, node_root_of};
 ghost use Rattle.sia_merkle.specs.Stacked.{IsStacked, over_rest};
 
@@ -22,9 +23,9 @@ pub struct RootStack {
 impl Model for RootStack {
     ghost Value = { List (List ℕ) };
 
-    ghost view = { λ s. s.pushed.hashes };
+    ghost view = { λ s. pushed_hashes s.pushed };
 
-    ghost invariant = { λ s. (s.count ≡ length s.pushed.hashes) × (s.count < 2 ^ 63) × IsStacked s.slots s.pushed.hashes };
+    ghost invariant = { λ s. (s.count ≡ length (pushed_hashes s.pushed)) × (s.count < 2 ^ 63) × IsStacked s.slots (pushed_hashes s.pushed) };
 }
 
 impl RootStack {
@@ -35,7 +36,7 @@ impl RootStack {
         RootStack {
             count: 0,
             slots: [[0; 32]; 64],
-            pushed: Pushed::new(),
+            pushed: Pushed::Nothing,
         }
     }
 
@@ -46,7 +47,7 @@ impl RootStack {
     {
         push(&mut self.slots, self.count, hash);
         self.count += 1;
-        self.pushed.note(hash);
+        self.pushed = self.pushed.and(hash);
     }
 
     /// Pushes a leaf of any length.
