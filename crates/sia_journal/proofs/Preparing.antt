@@ -1,16 +1,22 @@
 -- An opening, call by call.
-use Rattle.std.proofs.Common.{◌≡◌, inl, ℕ, ◌^◌, ◌<◌, ◌≤◌, List, [], ◌∷◌, ◌++◌, length, sym, ap, subst, ◌∙◌, arith}
+use Rattle.std.proofs.Common.{◌≡◌, inl, ℕ, ◌^◌, ◌<◌, ◌≤◌, List, [], ◌∷◌, ◌++◌, length, Result, Ok, IfOk, sym, ap, subst, ◌∙◌, arith}
 use Rattle.sia_edge.specs.Disk.{Only, NoneMore, Passes, Run, Earlier, Settles}
 use Rattle.sia_edge.specs.declared.disk.Did.{Did}
 use Rattle.sia_edge.specs.declared.disk.Did.TheVariants as did
 use Rattle.sia_edge.proofs.Runs.{goes_on, started, keeps_on}
 use Rattle.sia_journal.specs.declared.scan.Last.{Last}
-use Rattle.sia_journal.specs.Listed.{HEADER, FRESH, frames, at_rest, listed}
+use Rattle.sia_journal.specs.Listed.{HEADER, FRESH, IsDamaged, frames, at_rest, listed}
 use Rattle.sia_journal.specs.Journal.{Holds, Opens, MidAppend, LeavesMidAppend}
 use Rattle.sia_journal.specs.Opening.{IsRepaired, IsFound}
 use Rattle.sia_journal.proofs.Listing.{listed_few}
 use Rattle.sia_journal.proofs.Appending.{in_two, length-front}
 use Rattle.sia_journal.proofs.Repairing.{few_records, file_found, found_listed, repair_mid}
+
+-- a file that lists something isn't damaged
+undamaged : (header : List ℕ) (limit : ℕ) (records : List (List ℕ)) (file : List ℕ) → listed header limit file ≡ Ok records → IsDamaged header limit file → ⊥
+undamaged header limit records file lists damaged =
+    let P : Result (List (List ℕ)) ℕ → Type 0 = λ r. IfOk r (λ all. ⊥) in
+    subst P lists (subst P (sym damaged.1) tt)
 
 -- a sync that was done leaves one image
 pub settled : (bytes : List ℕ) (images : List ℕ → Type 0) (result : Did) → result ≡ did.Done → Settles result bytes images → Only bytes images
@@ -57,6 +63,16 @@ module _ {D : Type 0} (seen : D → List ℕ) (moment : D → ℕ) (since : D �
 
   pub split_found : (file : List ℕ) (last : Last) (found : IsFound header file last) → file ≡ (header ++ frames found.ends.records) ++ last.gate ∷ found.ends.behind
   split_found file last found = file_found header size limit bounded file last found ∙ in_two header found.ends.records (last.gate ∷ found.ends.behind)
+
+  pub few_undamaged : (begin first : D) → seen first ≡ seen begin → length (seen first) ≤ FRESH → IsDamaged header limit (seen begin) → ⊥
+  few_undamaged begin first same few =
+      undamaged header limit [] (seen begin) (listed_few header limit (seen begin) (omega (arith, few, ap length same)))
+
+  pub found_undamaged : (begin first : D) (last : Last) → IsFound header (seen first) last → seen first ≡ seen begin → length (seen first) ≤ limit
+      → IsDamaged header limit (seen begin) → ⊥
+  found_undamaged begin first last found same within =
+      undamaged header limit found.ends.records (seen begin)
+      (ap (listed header limit) (sym same) ∙ found_listed header size limit bounded (seen first) last found within)
 
   pub opened : (begin first next : D) (last : Last) (found : IsFound header (seen first) last) → seen first ≡ seen begin → length (seen first) ≤ limit
       → seen next ≡ (header ++ frames found.ends.records) ++ 0 ∷ [] → Only (seen next) (since next (moment next))

@@ -1,6 +1,6 @@
 -- What the bytes of a journal stand for: a header of 16 bytes, then frames, then one gate byte that isn't 1. A frame is
 -- the gate byte 1, the length of a payload in 8 bytes, the lowest first, and the payload.
-use Rattle.std.specs.Prelude.{ℕ, zero, suc, ◌+◌, ◌-◌, ◌==◌, nat_lt, List, [], ◌∷◌, ◌++◌, length, take, drop, if◌then◌else◌, Option, Some, None, Result, Ok, Err}
+use Rattle.std.specs.Prelude.{◌≡◌, ℕ, zero, suc, ◌+◌, ◌-◌, ◌==◌, nat_lt, List, [], ◌∷◌, ◌++◌, length, take, drop, if◌then◌else◌, Option, Some, None, Result, Ok, Err}
 use Rattle.std.specs.List.{flat_map}
 use Rattle.std.specs.Int.{w64, from_le_bytes}
 use Rattle.std.specs.Str.{bytes_eq}
@@ -18,6 +18,7 @@ FRESH = 17
 abbrev pub frame : List ℕ → List ℕ
 frame payload = 1 ∷ spelled_bytes payload
 
+-- records in the file, one behind the other
 abbrev pub frames : List (List ℕ) → List ℕ
 frames records = flat_map frame records
 
@@ -71,3 +72,7 @@ listed header limit file =
     then (if nat_lt limit (length file) then Err limit else records_from (length file) HEADER (drop HEADER file))
     else Err 0)
     else Ok []
+
+-- a file that lists nothing but an error
+abbrev pub IsDamaged : List ℕ → ℕ → List ℕ → Type 0
+IsDamaged header limit file = (place : ℕ) × (listed header limit file ≡ Err place)

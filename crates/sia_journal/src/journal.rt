@@ -1,7 +1,7 @@
 //! A journal that is open: records are read and appended.
-ghost use Rattle.std.specs.Prelude.{◌≡◌, ◌+◌, ◌^◌, ◌<◌, ◌≤◌, ◌++◌, ◌∷◌, [], ℕ, List, IsTrue, IfOk, OnOk, OnErr, IfErr, Err, length};
+ghost use Rattle.std.specs.Prelude.{◌≡◌, ◌≢◌, ◌+◌, ◌^◌, ◌<◌, ◌≤◌, ◌++◌, ◌∷◌, [], ℕ, List, IsTrue, false, IfOk, OnOk, OnErr, IfErr, Err, drop, length};
 ghost use Rattle.sia_edge.specs.Disk.{Passes, Quiet};
-ghost use Rattle.sia_journal.specs.Listed.{HEADER, place_after, listed};
+ghost use Rattle.sia_journal.specs.Listed.{HEADER, IsDamaged, place_after, listed};
 ghost use Rattle.sia_journal.specs.Journal.{Holds, LeavesMidAppend, IsReady, need_for, AppendCause, Opens, OpenCause, disk_of, NextIs, ReadCause};
 
 use crate::fault::{JournalFault, done};
@@ -10,6 +10,7 @@ use crate::record::RecordBuf;
 use sia_edge::{Disk, read_into, read_whole};
 use sia_encoding::Blob;
 use std::alloc::Global;
+use std::mem;
 
 /// A list of records in one file.
 ///
@@ -28,7 +29,8 @@ pub struct Journal<D: Disk> {
 impl<D: Disk> Journal<D> {
     /// Opens the journal of a disk, where nothing but this journal writes: makes a fresh file of one of at most 17 bytes,
     /// and repairs the end of a longer one. The header names what is kept, and the limit is the greatest length that the
-    /// file may have, in bytes. An error hands the disk back.
+    /// file may have, in bytes. An error hands the disk back, and `Disk` alone may leave something of a making or a repair
+    /// on it: after `Memory` and `Damaged` it is as before. A damaged file stays as it is, whatever this answers.
     pub fn open(
         alloc: Global,
         mut disk: D,
@@ -44,6 +46,8 @@ impl<D: Disk> Journal<D> {
             → LeavesMidAppend header.now limit records payload (D.since disk (D.moment disk))
             → LeavesMidAppend header.now limit records payload (D.since (disk_of result) (D.moment disk)) }
         ensures time { Passes (D.moment disk) (D.moment (disk_of result)) (D.since disk) (D.since (disk_of result)) }
+        ensures refused { IfErr result (λ failed. failed.0 ≢ JournalFault.Disk → Quiet D.seen D.moment D.since disk failed.1) }
+        ensures damaged { IsTrue D.tells → IsDamaged header.now limit (D.seen disk) → Quiet D.seen D.moment D.since disk (disk_of result) }
         ensures cause { IfErr result (λ failed. OpenCause D.tells (D.faults disk) (D.faults failed.1) (listed header.now limit (D.seen disk)) failed.0) }
         ensures later { D.faults disk ≤ D.faults (disk_of result) }
     {
@@ -54,8 +58,8 @@ impl<D: Disk> Journal<D> {
     }
 
     /// Puts the payload of the record at a place into `out`, in place of what is there, and moves the place to the next
-    /// record. It answers false at the end. The first record's place is 16. It takes no memory where `out` has room. An error
-    /// leaves the place.
+    /// record. It answers false at the end; then, and after an error, the place and `out` are as before. The first record's
+    /// place is 16. It takes no memory where `out` has room for the payload behind what is there.
     pub fn read_next(
         &mut self,
         alloc: Global,
@@ -70,7 +74,9 @@ impl<D: Disk> Journal<D> {
         ensures next { IsTrue D.tells → (header : List ℕ) (read left : List (List ℕ)) → length header ≡ HEADER
             → Holds D.seen D.moment D.since header (read ++ left) self.old.disk → place.old ≡ place_after read
             → IfOk result (NextIs read left place.new out.new) }
-        ensures stays { OnErr result (place.new ≡ place.old) }
+        ensures ends { IfOk result (λ more. more ≡ false → (place.new ≡ place.old) × (out.new ≡ out.old)) }
+        ensures moves { IfOk result (λ more. IsTrue more → place.new ≡ place.old + 9 + length out.new) }
+        ensures stays { OnErr result ((place.new ≡ place.old) × (out.new ≡ out.old)) }
         ensures quiet { Quiet D.seen D.moment D.since self.old.disk self.new.disk }
         ensures cause { IfErr result (ReadCause (D.faults self.old.disk) (D.faults self.new.disk)) }
         ensures later { D.faults self.old.disk ≤ D.faults self.new.disk }
@@ -85,8 +91,9 @@ impl<D: Disk> Journal<D> {
         if size > left - 9 {
             return Ok(false);
         }
-        out.clear();
+        let held = out.len();
         read_into(alloc, &mut self.disk, *place + 9, size, out)?;
+        drop_front(alloc, out, held);
         *place += 9 + size;
         Ok(true)
     }
@@ -138,4 +145,14 @@ impl<D: Disk> Journal<D> {
         let Journal { disk, .. } = self;
         disk
     }
+}
+
+/// Lets go the first `count` bytes. It takes no memory.
+fn drop_front(alloc: Global, blob: &mut Blob, count: usize)
+    requires { count ≤ length blob.old }
+    ensures { blob.new ≡ drop count blob.old }
+{
+    let mut bytes = mem::replace(blob, Blob::new(alloc)).into_vec();
+    bytes.drain(..count);
+    *blob = Blob::from_vec(bytes);
 }

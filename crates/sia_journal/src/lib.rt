@@ -8,8 +8,13 @@
 //!   the limit, and changes nothing.
 //! - [`Journal::open`] makes a fresh file of one of at most 17 bytes, and repairs the end of a longer one. Where it was done its
 //!   list is that of the file in every image. A crash during it leaves the list that it answers, or the one that differs by the
-//!   last record, whose append had failed before. `Damaged` comes exactly where the file lists nothing but an error.
-//! - [`Journal::read_next`] gives the payloads in order.
+//!   last record, whose append had failed before. `Memory` and `Damaged` leave the disk as it was.
+//! - [`Journal::read_next`] gives the payloads in order. At the end, and after an error, its place and what it reads into are
+//!   as before.
+//!
+//! Where the disk tells its bytes, `Damaged` comes only for a file that lists nothing but an error, and names its place. Such
+//! a file is never changed, and never opened: it is told as damaged wherever memory suffices and no call fails. `Disk` comes
+//! only where a call of the disk failed.
 //!
 //! It stands on `sia_edge` for the disk and its model of a crash, and on `sia_encoding` for `Blob` and the spelling of a payload.
 #![tactic(auto)]

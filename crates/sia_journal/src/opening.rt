@@ -1,7 +1,7 @@
 //! Opening a journal: a fresh file is made, and the end of a longer one is repaired.
-ghost use Rattle.std.specs.Prelude.{◌≡◌, ℕ, ◌+◌, ◌^◌, ◌<◌, ◌≤◌, ◌++◌, ◌∷◌, [], List, IsTrue, IfOk, IfErr, OnOk, Ok, length};
-ghost use Rattle.sia_edge.specs.Disk.{Passes, Only};
-ghost use Rattle.sia_journal.specs.Listed.{FRESH, at_rest, listed};
+ghost use Rattle.std.specs.Prelude.{◌≡◌, ◌≢◌, ℕ, ◌+◌, ◌^◌, ◌<◌, ◌≤◌, ◌++◌, ◌∷◌, [], List, IsTrue, IfOk, IfErr, OnOk, Ok, length};
+ghost use Rattle.sia_edge.specs.Disk.{Passes, Quiet, Only};
+ghost use Rattle.sia_journal.specs.Listed.{FRESH, IsDamaged, at_rest, listed};
 ghost use Rattle.sia_journal.specs.Journal.{Holds, LeavesMidAppend, DiskCause, OpenCause, Opens};
 ghost use Rattle.sia_journal.specs.Opening.{IsRepaired};
 
@@ -72,6 +72,8 @@ pub(crate) fn prepare<D: Disk>(
         → LeavesMidAppend header.now limit records payload (D.since disk.old (D.moment disk.old))
         → LeavesMidAppend header.now limit records payload (D.since disk.new (D.moment disk.old)) }
     ensures time { Passes (D.moment disk.old) (D.moment disk.new) (D.since disk.old) (D.since disk.new) }
+    ensures refused { IfErr result (λ fault. fault ≢ JournalFault.Disk → Quiet D.seen D.moment D.since disk.old disk.new) }
+    ensures damaged { IsTrue D.tells → IsDamaged header.now limit (D.seen disk.old) → Quiet D.seen D.moment D.since disk.old disk.new }
     ensures cause { IfErr result (OpenCause D.tells (D.faults disk.old) (D.faults disk.new) (listed header.now limit (D.seen disk.old))) }
     ensures later { D.faults disk.old ≤ D.faults disk.new }
 {

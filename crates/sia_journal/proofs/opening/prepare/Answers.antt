@@ -2,7 +2,7 @@ use Rattle.std.proofs.Common.{◌≡◌, ◌++◌, ◌^◌, ◌<◌, ◌≤◌, 
 use Rattle.sia_edge.specs.Disk.{Only}
 use Rattle.sia_edge.proofs.Runs.{quiet_run, quiet_only}
 use Rattle.sia_journal.specs.Listed.{HEADER, FRESH, frames}
-use Rattle.sia_journal.proofs.Preparing.{synced, settled, mid_seen, made_fresh, repaired, front_found, split_found, opened, opened_fresh}
+use Rattle.sia_journal.proofs.Preparing.{synced, settled, mid_seen, made_fresh, repaired, front_found, split_found, opened, opened_fresh, few_undamaged, found_undamaged}
 use Rattle.sia_journal.proofs.opening.prepare.Goals as goal
 
 pub returns-in_err-done-clause-crash : goal.returns-in_err-done-clause-crash
@@ -94,3 +94,29 @@ returns-clause-crash g c = λ told records payload each.
     λ bytes left. quiet_only c.find_last.ensures.quiet (g.met.D.Disk.earlier c.find_last.new.disk) only bytes left ∙ sym c.find_last.ensures.quiet.same in
     (repaired g.D.Disk.seen g.D.Disk.moment g.D.Disk.since c.args.header.now size c.args.limit small records payload c.args.disk.now c.find_last.new.disk c.repair.new.disk file last found run2 mid (omega (arith, c.length.ensures, c.if-length.false)) c.in_ok-last.ensures.within.2
     c.repair.ensures.time (g.met.D.Disk.earlier c.repair.new.disk) (c.repair.ensures.images told (c.args.header.now ++ frames found.ends.records) found.ends.behind front split only2)).leaves
+
+pub returns-in_err-make_fresh-clause-damaged : goal.returns-in_err-make_fresh-clause-damaged
+returns-in_err-make_fresh-clause-damaged g c = λ told damaged.
+    let size : length c.args.header.now ≡ HEADER = search rules in
+    let small : c.args.limit < 2 ^ 64 = omega (arith, c.requires.high) in
+    let few : length (g.D.Disk.seen c.sync.new.self) ≤ FRESH = omega (arith, c.length.ensures, c.if-length.true) in
+    absurd (few_undamaged g.D.Disk.seen g.D.Disk.moment g.D.Disk.since c.args.header.now size c.args.limit small c.args.disk.now c.sync.new.self c.sync.ensures.same few damaged)
+
+pub returns-then-length-clause-damaged : goal.returns-then-length-clause-damaged
+returns-then-length-clause-damaged g c = λ told damaged.
+    let size : length c.args.header.now ≡ HEADER = search rules in
+    let small : c.args.limit < 2 ^ 64 = omega (arith, c.requires.high) in
+    let few : length (g.D.Disk.seen c.sync.new.self) ≤ FRESH = omega (arith, c.length.ensures, c.if-length.true) in
+    absurd (few_undamaged g.D.Disk.seen g.D.Disk.moment g.D.Disk.since c.args.header.now size c.args.limit small c.args.disk.now c.sync.new.self c.sync.ensures.same few damaged)
+
+pub returns-in_err-repair-clause-damaged : goal.returns-in_err-repair-clause-damaged
+returns-in_err-repair-clause-damaged g c = λ told damaged.
+    let size : length c.args.header.now ≡ HEADER = search rules in
+    let small : c.args.limit < 2 ^ 64 = omega (arith, c.requires.high) in
+    absurd (found_undamaged g.D.Disk.seen g.D.Disk.moment g.D.Disk.since c.args.header.now size c.args.limit small c.args.disk.now c.sync.new.self c.in_ok-last.last (c.in_ok-last.ensures.found told) c.sync.ensures.same c.in_ok-last.ensures.within.2 damaged)
+
+pub returns-clause-damaged : goal.returns-clause-damaged
+returns-clause-damaged g c = λ told damaged.
+    let size : length c.args.header.now ≡ HEADER = search rules in
+    let small : c.args.limit < 2 ^ 64 = omega (arith, c.requires.high) in
+    absurd (found_undamaged g.D.Disk.seen g.D.Disk.moment g.D.Disk.since c.args.header.now size c.args.limit small c.args.disk.now c.sync.new.self c.in_ok-last.last (c.in_ok-last.ensures.found told) c.sync.ensures.same c.in_ok-last.ensures.within.2 damaged)

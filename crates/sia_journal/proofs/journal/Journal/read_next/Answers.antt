@@ -1,4 +1,5 @@
-use Rattle.std.proofs.Common.{◌+◌, ◌++◌, ◌^◌, ◌<◌, take, drop, arith, rules, ap, ◌∙◌}
+use Rattle.std.proofs.Common.{◌+◌, ◌^◌, ◌<◌, take, drop, arith, rules, sym, ap, ◌∙◌}
+use Rattle.std.proofs.lemmas.List.{drop_at}
 use Rattle.sia_edge.proofs.Runs.{quiet_on}
 use Rattle.sia_journal.proofs.ReadingBack.{filled, next_few, next_long, next_read}
 use Rattle.sia_journal.proofs.journal.Journal.read_next.Goals as goal
@@ -23,6 +24,7 @@ pub returns-clause-next : goal.returns-clause-next
 returns-clause-next g c = λ told header read left size holds stands.
     let small : c.args.self.now.gate < 2 ^ 64 = omega (arith, c.requires.ready.within, c.requires.ready.bounded) in
     let bytes = filled c.read_whole.new.buffer (g.D.Disk.seen c.args.self.now.disk) (c.args.place.now + 1) 8 c.read_whole.result c.in_ok-done.ensures.ok (search rules) (c.read_whole.ensures.bytes told) in
-    let reads = c.in_ok-read_into.ensures.bytes told ∙ ap (λ front. front ++ take c.from_le_bytes-size.result (drop (c.args.place.now + 9) (g.D.Disk.seen c.read_whole.new.disk))) c.clear.ensures in
-    next_read header size read (g.D.Disk.seen c.args.self.now.disk) c.args.self.now.gate c.args.place.now c.requires.ready.ends stands c.read_whole.new.buffer c.from_le_bytes-size.result small bytes c.from_le_bytes-size.ensures left c.read_into.new.out holds.is c.if-left-lt9.false
+    let front = c.in_ok-read_into.ensures.bytes told in
+    let reads = c.drop_front.ensures ∙ ap (drop c.len-held.result) front ∙ drop_at c.args.out.now (take c.from_le_bytes-size.result (drop (c.args.place.now + 9) (g.D.Disk.seen c.read_whole.new.disk))) c.len-held.result (sym c.len-held.ensures) in
+    next_read header size read (g.D.Disk.seen c.args.self.now.disk) c.args.self.now.gate c.args.place.now c.requires.ready.ends stands c.read_whole.new.buffer c.from_le_bytes-size.result small bytes c.from_le_bytes-size.ensures left c.drop_front.new.blob holds.is c.if-left-lt9.false
     (reads ∙ ap (λ file. take c.from_le_bytes-size.result (drop (c.args.place.now + 9) file)) c.read_whole.ensures.quiet.same)
