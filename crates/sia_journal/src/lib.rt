@@ -31,3 +31,6 @@ mod window;
 pub use fault::JournalFault;
 pub use journal::Journal;
 pub use record::RecordBuf;
+
+#[cfg(test)]
+mod tests;

@@ -17,3 +17,6 @@ mod storing;
 
 pub use fault::StoreFault;
 pub use storing::store;
+
+#[cfg(test)]
+mod tests;
