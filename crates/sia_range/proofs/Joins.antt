@@ -8,7 +8,7 @@ use Rattle.std.proofs.lemmas.Bool.{le-leb, lt-leb, leb-true, leb-false, ltb-true
 use Rattle.std.proofs.lemmas.List.{take-take, drop-take, drop-drop, drop-map, drop_min}
 use Rattle.sia_merkle.specs.Computations.{Tree, hash_of}
 use Rattle.sia_merkle.specs.Computations.Tree.{Given, Node}
-use Rattle.sia_merkle.specs.Roots.{first_hash, node_digest, node_root_of, tree_root}
+use Rattle.sia_merkle.specs.Roots.{first_hash, node_digest, tree_root}
 use Rattle.sia_merkle.specs.Segments.{cover_within, is_covered, others, places_between, places_within, first_tree, joined_within, segment_root}
 use Rattle.sia_merkle.proofs.Trees.{lt_pow, pow_up}
 use Rattle.sia_range.proofs.Covers.{covered_at, past_covered}
@@ -178,10 +178,6 @@ join_lower chosen count height lower low inner outer is e past =
 pub hash_of_node : (left right : Tree) → hash_of (Node left right) ≡ node_digest (hash_of left) (hash_of right)
 unfolding hash_of
 hash_of_node left right = refl
-
-pub root_of_two : (left right : List ℕ) → node_root_of (left ∷ right ∷ []) ≡ node_digest left right
-unfolding node_root_of tree_root
-root_of_two left right = refl
 
 pub hash_given : (hash : List ℕ) → hash_of (Given hash) ≡ hash
 unfolding hash_of

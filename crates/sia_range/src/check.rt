@@ -10,7 +10,7 @@ use crate::cover::cover_len;
 use crate::leaf_nodes::LeafNodes;
 use crate::places::{Places, Side, is_covered, power};
 use sia_blake::Hash;
-use sia_merkle::{Nodes, PlainNodes, node_root};
+use sia_merkle::{Nodes, PlainNodes, node};
 
 /// The height that every tree of fewer than 2^64 hashes fits.
 pub(crate) const HEIGHT: u32 = 64;
@@ -106,5 +106,5 @@ pub(crate) fn join<N: Nodes>(
     let (left, right) = outer.split_at(left_len as usize);
     let first = join(places, inner, height - 1, low, left);
     let second = join(places, inner, height - 1, low + half, right);
-    node_root(&[first, second])
+    node(&first, &second)
 }

@@ -11,7 +11,7 @@ use crate::cover::cover_len;
 use crate::leaf_nodes::LeafNodes;
 use crate::places::{Places, Side, is_covered, power};
 use sia_blake::Hash;
-use sia_merkle::node_root;
+use sia_merkle::node;
 use sia_types::UpdateProof;
 
 /// The root of `n` leaves after those at the places from `a` to `b` are replaced by the leaves of `bytes`. `None` where the
@@ -85,5 +85,5 @@ fn join_segments(places: Places, height: u32, low: u64, inner: &[Hash], outer: &
     let (outer_left, outer_right) = outer.split_at(outer_len as usize);
     let first = join_segments(places, height - 1, low, inner_left, outer_left);
     let second = join_segments(places, height - 1, low + half, inner_right, outer_right);
-    node_root(&[first, second])
+    node(&first, &second)
 }

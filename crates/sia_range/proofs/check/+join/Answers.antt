@@ -6,7 +6,7 @@ use Rattle.sia_merkle.specs.Computations.Tree.{Given}
 use Rattle.sia_merkle.specs.Roots.{node_digest, first_hash}
 use Rattle.sia_merkle.specs.Segments.{cover_within, is_covered, joined_within, others, places_between}
 use Rattle.sia_range.proofs.Covers.{cover_one, cover_lower, cover_both}
-use Rattle.sia_range.proofs.Joins.{first_of, hash_given, join_given, join_chosen, join_lower, join_both, one_root, root_of_two, uncovered_chosen}
+use Rattle.sia_range.proofs.Joins.{first_of, hash_given, join_given, join_chosen, join_lower, join_both, one_root, uncovered_chosen}
 use Rattle.sia_range.proofs.check.+join.Goals as goal
 
 pub bounds-outer-0 : goal.bounds-outer-0
@@ -83,7 +83,7 @@ returns g t c =
     let is : c.args.height ≡ suc (c.args.height - 1) = omega (arith, c.if-height-eq0.false) in
     let above : c.args.low + 2 ^ (c.args.height - 1) < c.args.places.count = omega (arith, c.power-half.ensures) in
     let inner : length (map Given (g.N.Nodes.hashes c.args.inner.now)) ≡ c.args.places.end - c.args.places.start = length-map (g.N.Nodes.hashes c.args.inner.now) Given ∙ c.requires.inner in
-    c.node_root.ensures ∙ root_of_two c.join-first.result c.join-second.result
+    c.node-2.ensures
     ∙ ap (λ hash. node_digest hash c.join-second.result) c.join-first.ensures
     ∙ ap (node_digest (hash_of (joined_within (places_between c.args.places.start c.args.places.end) c.args.places.count (c.args.height - 1) c.args.low (drop (c.args.low - c.args.places.start) (map Given (g.N.Nodes.hashes c.args.inner.now))) c.split_at.result.0.now)))
     (c.join-second.ensures ∙ ap (λ h. hash_of (joined_within (places_between c.args.places.start c.args.places.end) c.args.places.count (c.args.height - 1) (c.args.low + h)

@@ -4,7 +4,7 @@ use Rattle.sia_merkle.specs.Computations.{hash_of}
 use Rattle.sia_merkle.specs.Roots.{node_digest, first_hash}
 use Rattle.sia_merkle.specs.Segments.{cover_within, is_covered, joined_segments_within, others, places_between}
 use Rattle.sia_range.proofs.Covers.{cover_one, cover_lower, left_len, right_len}
-use Rattle.sia_range.proofs.Joins.{first_of, hash_given, root_of_two}
+use Rattle.sia_range.proofs.Joins.{first_of, hash_given}
 use Rattle.sia_range.proofs.SegmentJoins.{segments_inner, segments_outer, segments_lower, segments_both, other_covered}
 use Rattle.sia_range.proofs.update.+join_segments.Goals as goal
 use Rattle.sia_range.proofs.update.+join_segments.Goals.{then-height-eq0-via-then-height-eq0, then-height-eq0-via-else-height-eq0+then-is_covered-2}
@@ -98,7 +98,7 @@ pub returns : goal.returns
 returns t c =
     let is : c.args.height ≡ suc (c.args.height - 1) = omega (arith, c.if-height-eq0.false) in
     let above : c.args.low + 2 ^ (c.args.height - 1) < c.args.places.count = omega (arith, c.power-half.ensures) in
-    c.node_root.ensures ∙ root_of_two c.join_segments-first.result c.join_segments-second.result
+    c.node.ensures
     ∙ ap (λ hash. node_digest hash c.join_segments-second.result) c.join_segments-first.ensures
     ∙ ap (node_digest (hash_of (joined_segments_within (places_between c.args.places.start c.args.places.end) c.args.places.count (c.args.height - 1) c.args.low c.split_at.result.0.now c.split_at-2.result.0.now)))
     (c.join_segments-second.ensures ∙ ap (λ h. hash_of (joined_segments_within (places_between c.args.places.start c.args.places.end) c.args.places.count (c.args.height - 1) (c.args.low + h) c.split_at.result.1.now c.split_at-2.result.1.now)) c.power-half.ensures)
