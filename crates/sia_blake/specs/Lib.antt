@@ -1,3 +1,4 @@
 pub mod Blake2b
 pub mod Absorbing
 pub mod Lanes
+pub mod History

@@ -1,32 +1,37 @@
 //! A list of bytes that only clauses read.
 
-ghost use Rattle.std.specs.Prelude.{◌≡◌, List, ℕ, [], ◌++◌};
-ghost use Rattle.std.specs.Borrow.{ftrue};
+ghost use Rattle.std.specs.Prelude.{◌≡◌, [], ◌∷◌, ◌++◌};
+ghost use Rattle.sia_blake.specs.History.{absorbed_bytes};
 
-use std::marker::{Model, PhantomData};
+use std::snapshot::Snapshot;
 
-/// The bytes that a hasher was given. It keeps none of them when it runs.
+/// The bytes that a hasher was given. None of them is kept at run time, since a snapshot has no bytes.
 #[derive(Drop)]
-pub(crate) struct Absorbed {
-    marker: PhantomData<u8>,
-    pub ghost bytes: { List ℕ },
-}
-
-impl Model for Absorbed {
-    ghost also_owns = { λ _. ftrue };
+pub(crate) enum Absorbed {
+    Nothing,
+    Then {
+        before: Snapshot<Absorbed>,
+        byte: Snapshot<u8>,
+    },
 }
 
 impl Absorbed {
-    pub(crate) fn new() -> Absorbed
-        ensures { result.bytes ≡ [] }
+    /// These bytes and one more.
+    fn and(&self, byte: &u8) -> Absorbed
+        ensures { absorbed_bytes result ≡ absorbed_bytes self.now ++ byte.now ∷ [] }
     {
-        Absorbed {
-            marker: PhantomData,
+        Absorbed::Then {
+            before: Snapshot::of(self),
+            byte: Snapshot::of(byte),
         }
     }
 
     /// Adds bytes to the list.
-    pub(crate) fn note(&mut self, _bytes: &[u8])
-        ensures { self.new.bytes ≡ self.old.bytes ++ _bytes.now }
-    {}
+    pub(crate) fn note(&mut self, bytes: &[u8])
+        ensures { absorbed_bytes self.new ≡ absorbed_bytes self.old ++ bytes.now }
+    {
+        for byte in bytes {
+            *self = self.and(byte);
+        }
+    }
 }

@@ -20,14 +20,15 @@ impl Model for Hasher {
     ghost use Rattle.std.specs.Prelude.{List, ℕ, ◌<◌, ◌^◌, length};
     ghost use Rattle.std.specs.Coded.{coded_list, coded_ℕ};
     ghost use Rattle.sia_blake.specs.Absorbing.{IsAbsorbed};
+    ghost use Rattle.sia_blake.specs.History.{absorbed_bytes};
 
     ghost Value = { List ℕ };
 
     ghost coded = { coded_list coded_ℕ };
 
-    ghost view = { λ a. a.absorbed.bytes };
+    ghost view = { λ a. absorbed_bytes a.absorbed };
 
-    ghost invariant = { λ a. IsAbsorbed a.state a.absorbed.bytes × (length a.absorbed.bytes < 2 ^ 64) };
+    ghost invariant = { λ a. IsAbsorbed a.state (absorbed_bytes a.absorbed) × (length (absorbed_bytes a.absorbed) < 2 ^ 64) };
 }
 
 impl Hasher {
@@ -37,7 +38,7 @@ impl Hasher {
     {
         Hasher {
             state: HashState::new(),
-            absorbed: Absorbed::new(),
+            absorbed: Absorbed::Nothing,
         }
     }
 

@@ -1,0 +1,7 @@
+-- The bytes that a hasher was given, as its snapshots show them. No public clause speaks of it.
+use Rattle.std.specs.Prelude.{ℕ, List, [], ◌∷◌, ◌++◌}
+use Rattle.sia_blake.specs.declared.absorbed.Absorbed.{Absorbed, Nothing, Then'}
+
+abbrev pub absorbed_bytes : Absorbed → List ℕ
+absorbed_bytes Nothing = []
+absorbed_bytes (Then' marker before byte) = absorbed_bytes before ++ byte.value ∷ []
