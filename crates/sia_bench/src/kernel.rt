@@ -3,9 +3,10 @@
 use crate::sectors::Slots;
 use crate::turns::Crew;
 
-/// What the program prints where the words are wrong.
+/// What the program prints where the words are wrong: N is less than 1, or more than 2^20 for a shelf, or there are fewer
+/// threads than 1 or more than 64.
 pub(crate) const USAGE: &str =
-    "usage: sia_bench digest FILE N | turn THREADS N | journal FILE N | open FILE | shelf FILE N (N at least 1, THREADS 1 to 64, of shelf N at most 1048576)";
+    "usage: sia_bench digest FILE N | turn THREADS N | journal FILE N | open FILE | shelf FILE N";
 
 /// What to run.
 #[derive(Clone, Copy)]

@@ -6,7 +6,7 @@
 //! `sia_bench journal FILE N` appends N records to the journal of FILE, and prints how many nanoseconds that took.
 //! `sia_bench open FILE` opens the journal of FILE and reads all its records, and prints how many there are and how many
 //! nanoseconds each of the two took.
-//! `sia_bench shelf FILE N` puts N sectors into FILE, each with a sync, and prints how many nanoseconds that took.
+//! `sia_bench shelf FILE N` puts N sectors of 4 MiB into FILE, each with a sync, and prints how many nanoseconds that took.
 //! Wrong words give status 1, and a file that can't be read status 2.
 #![tactic(auto)]
 

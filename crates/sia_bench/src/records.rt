@@ -1,13 +1,13 @@
 //! A journal over a file: records are appended one after another, or all are read.
 
-ghost use Rattle.std.specs.Prelude.{◌≡◌, ◌+◌, ◌++◌, ◌∷◌, [], ℕ, ◌^◌, ◌<◌, ◌≤◌, List, IsTrue, IfOk, OnOk, length, replicate};
-ghost use Rattle.sia_journal.specs.Listed.{HEADER, listed};
-ghost use Rattle.sia_journal.specs.Journal.{Holds, IsReady, Opens};
+ghost use Rattle.std.specs.Prelude.{◌≡◌, ◌++◌, ℕ, List, IsTrue, IfOk, OnOk, length, replicate};
+ghost use Rattle.sia_journal.specs.Listed.{HEADER};
+ghost use Rattle.sia_journal.specs.Journal.{Holds, IsReady};
 
 use sia_edge::{Disk, FileDisk};
 use sia_encoding::Blob;
 use sia_journal::{Journal, JournalFault, RecordBuf};
-use std::alloc::{AllocError, Global};
+use std::alloc::Global;
 use std::fs::File;
 use std::io::{self, ErrorKind};
 use std::rt::{Clock, Files};
@@ -119,4 +119,22 @@ pub(crate) fn open_nanos<R: Files<File = File> + Clock>(
         open: opened,
         read: start.elapsed(rt)?.as_nanos(),
     })
+}
+
+#[cfg(test)]
+mod tests {
+    use super::*;
+    use std::test::Fail;
+    use std::{fs, process};
+
+    #[test]
+    fn what_was_appended_is_read(rt: HostRuntime) -> Result<(), Fail> {
+        let name = format!(in rt.alloc(); "/tmp/sia_bench_records_{}", process::id(rt.process()))?;
+        append_nanos(&rt, rt.alloc(), name.as_str(), 3)?;
+        append_nanos(&rt, rt.alloc(), name.as_str(), 2)?;
+        let opening = open_nanos(&rt, rt.alloc(), name.as_str())?;
+        fs::remove_file(&rt, name.as_str())?;
+        assert_eq!(rt; opening.records, 5);
+        Ok(())
+    }
 }

@@ -1,6 +1,6 @@
 //! A shelf over a file: sectors are put one after another, each with a sync.
 
-ghost use Rattle.std.specs.Prelude.{◌≡◌, ◌+◌, ◌*◌, ◌^◌, ◌<◌, ◌≤◌, ℕ, IsTrue, IfOk, OnOk, length, vec_len, replicate};
+ghost use Rattle.std.specs.Prelude.{◌≡◌, ◌^◌, ◌<◌, ◌≤◌, ℕ, IsTrue, IfOk, OnOk, length, vec_len, replicate};
 ghost use Rattle.sia_shelf.specs.Slots.{InEach};
 ghost use Rattle.sia_shelf.specs.Shelf.{mark_of};
 
@@ -92,4 +92,24 @@ pub(crate) fn put_nanos<R: Files<File = File> + Clock>(
     let start = Instant::now(rt)?;
     put_each(&mut shelf, bytes.as_slice(), slots.count).map_err(error_of)?;
     Ok(start.elapsed(rt)?.as_nanos())
+}
+
+#[cfg(test)]
+mod tests {
+    use super::*;
+    use std::test::Fail;
+    use std::{fs, process};
+
+    #[test]
+    fn each_sector_is_written(rt: HostRuntime) -> Result<(), Fail> {
+        let name = format!(in rt.alloc(); "/tmp/sia_bench_sectors_{}", process::id(rt.process()))?;
+        let slots = Slots::of(2);
+        if let Some(slots) = slots {
+            put_nanos(&rt, rt.alloc(), name.as_str(), slots)?;
+        }
+        let size = fs::metadata(&rt, name.as_str())?.len();
+        fs::remove_file(&rt, name.as_str())?;
+        assert_eq!(rt; size, 8_388_608);
+        Ok(())
+    }
 }
