@@ -1,3 +1,5 @@
+pub mod Below
 pub mod Counts
 pub mod Fit
+pub mod Parts
 mod Rows
