@@ -1,9 +1,9 @@
 -- How many touched and new places there are below a place.
-use Rattle.std.proofs.Common.{◌≡◌, ◌≢◌, ℕ, zero, suc, ◌+◌, ◌-◌, ◌^◌, ◌<◌, ◌≤◌, true, false, List, [], ◌∷◌, ◌++◌, length, get_or, refl, sym, ◌∙◌, ap, arith, min, zero-add, length-append}
-use Rattle.std.specs.Prelude.{Bool, not, ◌&&◌, ◌||◌, cond, count_by, nat_le, nat_lt, nat_eq}
-use Rattle.std.specs.List.{AllWithin, range_with_len, list_all, list_any, filter}
+use Rattle.std.proofs.Common.{◌≡◌, ℕ, zero, suc, ◌+◌, ◌-◌, ◌^◌, ◌<◌, ◌≤◌, true, false, List, [], ◌++◌, length, get_or, refl, sym, ◌∙◌, ap, arith, min, zero-add, length-append}
+use Rattle.std.specs.Prelude.{Bool, ◌&&◌, cond, count_by, nat_le, nat_lt, nat_eq}
+use Rattle.std.specs.List.{range_with_len, list_all, filter}
 use Rattle.std.specs.List.Sorted.{IsPartitionedBy, IsPartitionPoint}
-use Rattle.std.proofs.lemmas.Bool.{le-leb, lt-leb, lt-ltb, le-ltb, leb-true, leb-false, ltb-true, ltb-false}
+use Rattle.std.proofs.lemmas.Bool.{le-leb, lt-leb, lt-ltb, le-ltb, ltb-true, ltb-false}
 use Rattle.std.proofs.lemmas.Bool.Decides.{nat_tests}
 use Rattle.std.proofs.lemmas.List.{get_or_append_left, get_or-append_right}
 use Rattle.std.proofs.lemmas.List.Elements.{filter-append}

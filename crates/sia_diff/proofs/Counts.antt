@@ -16,12 +16,12 @@ count_cons test x xs =
     let one : 0 + cond (test x) 1 0 ≡ cond (test x) 1 0 = omega arith in
     sum_by-append (λ y. cond (test y) 1 0) (x ∷ []) xs ∙ ap (λ n. n + count_by test xs) one
 
-touches_cons : (count : ℕ) (one : DiffStep) (steps : List DiffStep) (place : ℕ)
+pub touches_cons : (count : ℕ) (one : DiffStep) (steps : List DiffStep) (place : ℕ)
     → touch_count count (one ∷ steps) place ≡ cond (step_touches count one place) 1 0 + touch_count (count_after_step count one) steps place
 unfolding touch_count turns
 touches_cons count one steps place = count_cons (λ (turn : Turn). step_touches turn.count turn.step place) (record { count = count; step = one }) (turns (count_after_step count one) steps)
 
-fits_cons : (count : ℕ) (one : DiffStep) (steps : List DiffStep)
+pub fits_cons : (count : ℕ) (one : DiffStep) (steps : List DiffStep)
     → list_all (λ turn. step_fits turn.count turn.step) (turns count (one ∷ steps)) ≡ (step_fits count one && list_all (λ turn. step_fits turn.count turn.step) (turns (count_after_step count one) steps))
 unfolding turns
 fits_cons count one steps = refl
@@ -46,9 +46,13 @@ fits_more count next steps i d within e is =
     fits_next count steps i d within ∙ ap (λ b. b && list_all (λ turn. step_fits turn.count turn.step) (turns (count_after_step count (get_or steps i d)) (drop (i + 1) steps))) e
     ∙ ap (λ n. list_all (λ turn. step_fits turn.count turn.step) (turns n (drop (i + 1) steps))) (sym is)
 
-left_of_and : (here rest : Bool) → (here && rest) ≡ true → here ≡ true
+pub left_of_and : (here rest : Bool) → (here && rest) ≡ true → here ≡ true
 left_of_and true rest e = refl
 left_of_and false rest e = e
+
+pub right_of_and : (here rest : Bool) → (here && rest) ≡ true → rest ≡ true
+right_of_and true rest e = e
+right_of_and false rest e = absurd (let no : false ≡ true = e in cc)
 
 -- where all steps that are left fit, the next one does
 pub fits_here : (count : ℕ) (steps : List DiffStep) (i : ℕ) (d : DiffStep) → i < length steps → list_all (λ turn. step_fits turn.count turn.step) (turns count (drop i steps)) ≡ true

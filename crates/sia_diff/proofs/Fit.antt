@@ -1,15 +1,15 @@
 -- When steps are fit, test by test.
 use Rattle.std.proofs.Common.{◌≡◌, ℕ, ◌<◌, ◌≤◌, true, false, List, [], ◌∷◌, length, get_or, refl, ◌∙◌, ap, arith, min}
-use Rattle.std.specs.Prelude.{Bool, ◌&&◌, nat_le, nat_lt, nat_eq}
+use Rattle.std.specs.Prelude.{Bool, ◌&&◌, nat_le, nat_lt, nat_eq, Result, Ok, Err, IfOk}
 use Rattle.std.specs.List.{range_with_len, list_all, filter}
 use Rattle.std.proofs.Math.Bool.{and-false}
-use Rattle.std.proofs.lemmas.Bool.{le-leb, lt-leb, ltb-true}
+use Rattle.std.proofs.lemmas.Bool.{le-leb, lt-leb, leb-true, ltb-true}
 use Rattle.std.proofs.lemmas.Bool.Decides.{nat_tests}
 use Rattle.sia_diff.specs.declared.steps.DiffStep.{DiffStep}
 use Rattle.sia_diff.specs.declared.steps.DiffStep.TheVariants as step
 use Rattle.sia_diff.specs.Marks.{HasCounts, is_counted, is_counted_once}
 use Rattle.sia_diff.specs.Steps.{turns, step_fits, touch_count, is_touched, touched_places, is_alone, is_fit}
-use Rattle.sia_diff.proofs.Counts.{filter_row}
+use Rattle.sia_diff.proofs.Counts.{filter_row, left_of_and, right_of_and}
 
 pub too_many : (count : ℕ) (steps : List DiffStep) → 65536 < count → is_fit count steps ≡ false
 unfolding is_fit
@@ -59,3 +59,16 @@ pub all_fit : (count : ℕ) (steps : List DiffStep) → count ≤ 65536 → list
     → length (touched_places count steps) ≤ 1024 → is_fit count steps ≡ true
 unfolding is_fit
 all_fit count steps fits done alone few = rw (le-leb count 65536 fits, done, alone, le-leb (length (touched_places count steps)) 1024 few) refl
+
+-- what fit steps are
+pub fit_count : (count : ℕ) (steps : List DiffStep) → is_fit count steps ≡ true → count ≤ 65536
+unfolding is_fit
+fit_count count steps e = leb-true _ _ (left_of_and _ _ (left_of_and _ _ (left_of_and _ _ e)))
+
+pub fit_done : (count : ℕ) (steps : List DiffStep) → is_fit count steps ≡ true → list_all (λ turn. step_fits turn.count turn.step) (turns count steps) ≡ true
+unfolding is_fit
+fit_done count steps e = right_of_and _ _ (left_of_and _ _ (left_of_and _ _ e))
+
+pub if_ok : {T E : Type 0} (P Q : T → Type 0) (result : Result T E) → ((x : T) → P x → Q x) → IfOk result P → IfOk result Q
+if_ok P Q (Ok x) f p = f x p
+if_ok P Q (Err e) f p = tt

@@ -1,10 +1,10 @@
 -- Joins of two halves, with hashes for each place.
-use Rattle.std.proofs.Common.{◌≡◌, ℕ, zero, suc, ◌+◌, ◌-◌, ◌^◌, ◌<◌, ◌≤◌, true, false, List, [], ◌∷◌, ◌++◌, length, map, take, drop, get_or, refl, sym, ◌∙◌, ap, arith, min, length-drop, ◌≢◌}
+use Rattle.std.proofs.Common.{◌≡◌, ℕ, suc, ◌+◌, ◌-◌, ◌^◌, ◌<◌, ◌≤◌, true, false, List, [], ◌∷◌, length, map, take, drop, get_or, refl, sym, ◌∙◌, ap, arith, min, length-drop, ◌≢◌}
 use Rattle.std.specs.Prelude.{Bool, count_by}
 use Rattle.std.specs.List.{range_with_len}
 use Rattle.std.proofs.lemmas.List.{take-map, drop-map}
 use Rattle.sia_merkle.specs.Computations.{Tree, hash_of}
-use Rattle.sia_merkle.specs.Computations.Tree.{Given, Node}
+use Rattle.sia_merkle.specs.Computations.Tree.{Given}
 use Rattle.sia_merkle.specs.Roots.{first_hash, node_digest}
 use Rattle.sia_merkle.specs.Segments.{cover, cover_within, is_covered, others, places_within, first_tree, joined_within}
 use Rattle.sia_range.proofs.Covers.{cover_one, cover_past}

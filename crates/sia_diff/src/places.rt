@@ -31,6 +31,19 @@ pub fn touched(alloc: Global, n: u64, steps: &[DiffStep]) -> Result<Option<List<
     Ok(Some(places))
 }
 
+/// The same of steps that are fit.
+pub(crate) fn touched_by_fit(
+    alloc: Global,
+    n: u64,
+    steps: &[DiffStep],
+) -> Result<List<u64>, AllocError>
+    requires { IsTrue (is_fit n steps.now) }
+    ensures { IfOk result (λ places. places ≡ touched_places n steps.now) }
+{
+    let counts = touch_counts(alloc, n, steps)?;
+    places_counted(alloc, counts.as_slice())
+}
+
 /// Whether each step can be done at its turn.
 fn each_fits(n: u64, steps: &[DiffStep]) -> bool
     requires { n ≤ 65536 }

@@ -1,7 +1,7 @@
-use Rattle.std.proofs.Common.{rules, ◌≡◌, ◌+◌, ◌-◌, ◌<◌, ◌≤◌, length, count_by, sym, arith, ◌∙◌, nat_lt, ℕ}
+use Rattle.std.proofs.Common.{rules, ◌-◌, sym, arith, ◌∙◌, nat_lt, ℕ}
 use Rattle.std.specs.List.{range_with_len, filter}
 use Rattle.std.proofs.lemmas.List.Sorted.{IsPartitionPoint-from_clause}
-use Rattle.sia_diff.specs.Chosen.{ArePlaces, is_chosen, is_listed}
+use Rattle.sia_diff.specs.Chosen.{ArePlaces, is_listed}
 use Rattle.sia_diff.proofs.Below.{below_old, below_new, few_touched, cut_at, parted, touched_parts, front_low, rest_high}
 use Rattle.sia_diff.proofs.chosen.Chosen.below.Goals as goal
 

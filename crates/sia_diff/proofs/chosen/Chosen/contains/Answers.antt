@@ -1,4 +1,4 @@
-use Rattle.std.proofs.Common.{◌≡◌, ◌+◌, sym, ap, ◌∙◌, count_by, nat_lt}
+use Rattle.std.proofs.Common.{ap, ◌∙◌, count_by, nat_lt}
 use Rattle.std.specs.List.{range_with_len}
 use Rattle.sia_diff.specs.Chosen.{is_chosen}
 use Rattle.sia_diff.proofs.Below.{contains_told}

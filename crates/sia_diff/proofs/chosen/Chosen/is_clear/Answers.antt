@@ -1,4 +1,4 @@
-use Rattle.std.proofs.Common.{◌≡◌, ◌+◌, ◌^◌, ap}
+use Rattle.std.proofs.Common.{◌+◌, ap}
 use Rattle.sia_diff.specs.Chosen.{is_chosen}
 use Rattle.sia_diff.proofs.Below.{clear_when}
 use Rattle.sia_diff.proofs.chosen.Chosen.is_clear.Goals as goal

@@ -1,5 +1,4 @@
-use Rattle.std.proofs.Common.{◌≡◌, ◌≤◌, ◌+◌, ◌^◌, sym, ap, ◌∙◌, arith, count_by, min}
-use Rattle.std.specs.List.{range_with_len}
+use Rattle.std.proofs.Common.{◌≡◌, ◌+◌, ◌^◌, arith, min}
 use Rattle.sia_diff.specs.Chosen.{is_chosen}
 use Rattle.sia_diff.proofs.Below.{within_told}
 use Rattle.sia_diff.proofs.chosen.Chosen.within.Goals as goal
