@@ -15,7 +15,7 @@ front_by bytes count false e =
     ap leaves_of (take_all (64 * count) bytes (omega arith)) ∙ sym (take_all count (leaves_of bytes) (omega (arith, length-leaves bytes)))
 
 -- the leaves of a front of so many whole leaves, which may end before
-front : (bytes : List ℕ) (count : ℕ) → leaves_of (take (64 * count) bytes) ≡ take count (leaves_of bytes)
+pub front : (bytes : List ℕ) (count : ℕ) → leaves_of (take (64 * count) bytes) ≡ take count (leaves_of bytes)
 front bytes count = front_by bytes count (nat_lt count (leaf_count (length bytes))) refl
 
 -- the bytes of a range have its leaves

@@ -1,17 +1,18 @@
 -- What the checks of a range answer.
 use Rattle.std.proofs.Common.{◌≡◌, ◌≢◌, ℕ, zero, suc, ◌+◌, ◌-◌, ◌*◌, ◌^◌, ◌<◌, ◌≤◌, true, false, List, [], ◌∷◌, length, map, take, drop, refl, sym, ◌∙◌, ap, arith, min}
-use Rattle.std.specs.Prelude.{Bool, nat_eq, nat_le, nat_lt, IsTrue, ◌↔◌, count_by}
+use Rattle.std.specs.Prelude.{Bool, nat_eq, nat_le, IsTrue, ◌↔◌, count_by}
 use Rattle.std.specs.List.{range_with_len}
 use Rattle.std.specs.Cmp.Lexicographic.{pointwise, same_text, other_text}
-use Rattle.std.proofs.lemmas.Bool.{leb-true, leb-false, ltb-true, ltb-false}
-use Rattle.std.proofs.lemmas.List.{length-map, take-map, drop-map, take_all, take_min}
+use Rattle.std.proofs.lemmas.Bool.{leb-true, leb-false}
+use Rattle.std.proofs.lemmas.List.{length-map, take-map, drop-map, take_min}
 use Rattle.sia_merkle.specs.Computations.{Tree, hash_of}
 use Rattle.sia_merkle.specs.Computations.Tree.{Given, Leaf}
 use Rattle.sia_merkle.specs.Roots.{first_hash, leaf_count, leaf_digest, leaves_of, node_digest, root_of}
 use Rattle.sia_merkle.specs.Segments.{cover, cover_within, is_covered, others, places_between, places_within, first_tree, joined_within, segment_root}
-use Rattle.sia_merkle.proofs.Cuts.{hashes-take, hashes-drop, length-leaf_hashes}
+use Rattle.sia_merkle.proofs.Cuts.{hashes-drop}
 use Rattle.sia_merkle.proofs.Trees.{segment_root-is}
 use Rattle.sia_range.specs.Ranges.{range_tree, IsRangeProof}
+use Rattle.sia_range.proofs.ByteLeaves.{front}
 use Rattle.sia_range.proofs.Covers.{cover_at, power_above}
 use Rattle.sia_range.proofs.Joins.{count_between, join_at, join_given, join_low, join_node, hash_of_node}
 
@@ -127,15 +128,9 @@ of_leaves root count a b leaves hashes = (
   }),
 )
 
--- the leaves of a front of so many whole leaves, which may end before
-front_by : (bytes : List ℕ) (count : ℕ) → (more : Bool) → nat_lt count (leaf_count (length bytes)) ≡ more → map leaf_digest (leaves_of (take (64 * count) bytes)) ≡ take count (map leaf_digest (leaves_of bytes))
-front_by bytes count true e = hashes-take bytes count (ltb-true _ _ e)
-front_by bytes count false e =
-    let few : leaf_count (length bytes) ≤ count = ltb-false _ _ e in
-    ap (λ b. map leaf_digest (leaves_of b)) (take_all (64 * count) bytes (omega arith)) ∙ sym (take_all count (map leaf_digest (leaves_of bytes)) (omega (arith, length-leaf_hashes bytes)))
-
+-- the digests of the leaves of a front of so many whole leaves, which may end before
 pub front_leaves : (bytes : List ℕ) (count : ℕ) → map leaf_digest (leaves_of (take (64 * count) bytes)) ≡ take count (map leaf_digest (leaves_of bytes))
-front_leaves bytes count = front_by bytes count (nat_lt count (leaf_count (length bytes))) refl
+front_leaves bytes count = ap (map leaf_digest) (front bytes count) ∙ sym (take-map leaf_digest count (leaves_of bytes))
 
 -- the root over a segment of a byte string's leaves
 pub segment_of_leaves : (bytes rest segment : List ℕ) (level index width len : ℕ) → (index + 1) * 2 ^ level ≤ leaf_count (length bytes) → width ≡ 2 ^ level

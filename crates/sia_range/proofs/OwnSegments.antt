@@ -7,7 +7,7 @@ use Rattle.std.proofs.lemmas.List.{length-map, take_at, drop_at, take_all}
 use Rattle.sia_merkle.specs.Computations.{hash_of}
 use Rattle.sia_merkle.specs.Computations.Tree.{Given}
 use Rattle.sia_merkle.specs.Roots.{first_hash, node_digest, node_root_of, tree_root}
-use Rattle.sia_merkle.specs.Segments.{cover, cover_within, is_covered, others, joined_segments_within, segment_root, segment_roots, JoinsSegments}
+use Rattle.sia_merkle.specs.Segments.{cover, cover_within, is_covered, others, joined_segments_within, segment_root, segment_roots}
 use Rattle.sia_merkle.proofs.Trees.{lt_pow}
 use Rattle.sia_range.proofs.Covers.{cover_left, cover_one}
 use Rattle.sia_range.proofs.Joins.{hash_given, hash_of_node}
@@ -112,13 +112,3 @@ unfolding cover node_root_of
 own_segments_whole chosen hashes some =
     let aligned : 0 ≡ 0 * 2 ^ length hashes = omega arith in
     own_join_segments chosen hashes (length hashes) 0 0 aligned some ∙ ap (tree_root (length hashes)) (take_all (2 ^ length hashes) hashes (omega (arith, lt_pow (length hashes))))
-
--- and as many as are wanted are there
-pub own_segments_join : (chosen : ℕ → Bool) (hashes : List (List ℕ))
-    → JoinsSegments chosen (length hashes) (segment_roots hashes (cover chosen (length hashes))) (segment_roots hashes (cover (others chosen) (length hashes)))
-    (joined_segments_within chosen (length hashes) (length hashes) 0 (segment_roots hashes (cover chosen (length hashes))) (segment_roots hashes (cover (others chosen) (length hashes))))
-own_segments_join chosen hashes = record {
-  places = length-map (cover chosen (length hashes)) (λ segment. segment_root hashes segment.level segment.index);
-  segments = length-map (cover (others chosen) (length hashes)) (λ segment. segment_root hashes segment.level segment.index);
-  joined = refl;
-}
