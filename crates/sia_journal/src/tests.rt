@@ -194,7 +194,9 @@ fn around_a_failed_call_the_list_is_the_old_one_or_the_new_one(
 /// The files that a crash may leave while `bc` is appended behind `a`: the file ends anywhere in what is written, of which any
 /// part is there, behind a gate that is closed; and then, with all of it there, the gate is any byte.
 #[test]
-fn each_image_of_an_append_lists_the_old_records_or_the_new_ones(rt: HostRuntime) -> Result<(), Fail> {
+fn each_image_of_an_append_lists_the_old_records_or_the_new_ones(
+    rt: HostRuntime,
+) -> Result<(), Fail> {
     let alloc = rt.alloc();
     let written = [2, 0, 0, 0, 0, 0, 0, 0, b'b', b'c', 0];
     for (index, byte) in written.iter().enumerate() {
