@@ -35,10 +35,10 @@ after_none hashes (one ∷ steps) none = absurd (let some : 0 < length (one ∷ 
 pub after_done : (hashes : List (List ℕ)) (steps : List DiffStep) (i : ℕ) → length steps ≤ i → after hashes (drop i steps) ≡ hashes
 after_done hashes steps i past = after_none hashes (drop i steps) (omega (arith, length-drop i steps))
 
-first_fits : (count : ℕ) (one : DiffStep) (steps : List DiffStep) → list_all (λ turn. step_fits turn.count turn.step) (turns count (one ∷ steps)) ≡ true → step_fits count one ≡ true
+pub first_fits : (count : ℕ) (one : DiffStep) (steps : List DiffStep) → list_all (λ turn. step_fits turn.count turn.step) (turns count (one ∷ steps)) ≡ true → step_fits count one ≡ true
 first_fits count one steps fits = left_of_and _ _ (sym (fits_cons count one steps) ∙ fits)
 
-rest_fits : (count : ℕ) (one : DiffStep) (steps : List DiffStep) → list_all (λ turn. step_fits turn.count turn.step) (turns count (one ∷ steps)) ≡ true
+pub rest_fits : (count : ℕ) (one : DiffStep) (steps : List DiffStep) → list_all (λ turn. step_fits turn.count turn.step) (turns count (one ∷ steps)) ≡ true
     → list_all (λ turn. step_fits turn.count turn.step) (turns (count_after_step count one) steps) ≡ true
 rest_fits count one steps fits = right_of_and _ _ (sym (fits_cons count one steps) ∙ fits)
 
@@ -62,7 +62,7 @@ count_bound count [] bound fits = bound
 count_bound count (one ∷ steps) bound fits = count_bound (count_after_step count one) steps (step_bound count one bound (first_fits count one steps fits)) (rest_fits count one steps fits)
 
 -- a place that no step touches is there after each
-keeps_step : (count : ℕ) (one : DiffStep) (place : ℕ) → place < count → step_touches count one place ≡ false → place < count_after_step count one
+pub keeps_step : (count : ℕ) (one : DiffStep) (place : ℕ) → place < count → step_touches count one place ≡ false → place < count_after_step count one
 keeps_step count (step.Append hash) place within none = omega arith
 keeps_step count (step.Trim fewer) place within none = grind (arith, nat_tests)
 keeps_step count (step.Swap i j) place within none = within

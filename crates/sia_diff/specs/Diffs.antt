@@ -1,13 +1,13 @@
 -- What a diff proof shows: from the old hashes at the touched places and the roots of the cover of the untouched ones, the
 -- old root is computed, and then the new one (RHP2; `merkletree.BuildDiffProof` and `VerifyDiffProof` of Sia's Go library).
-use Rattle.std.specs.Prelude.{ℕ, ◌≡◌, nat_le, Bool, ◌||◌, List, [], ◌∷◌, map, drop, slice_index_or, if◌then◌else◌}
+use Rattle.std.specs.Prelude.{ℕ, ◌≡◌, nat_le, Bool, ◌||◌, List, [], ◌∷◌, length, map, drop, slice_index_or, if◌then◌else◌}
 use Rattle.std.specs.List.{range_with_len, filter}
 use Rattle.sia_merkle.specs.Computations.{Tree, hash_of}
 use Rattle.sia_merkle.specs.Computations.Tree.{Given}
-use Rattle.sia_merkle.specs.Roots.{first_hash}
-use Rattle.sia_merkle.specs.Segments.{joined_within, Joins}
+use Rattle.sia_merkle.specs.Roots.{first_hash, node_root_of}
+use Rattle.sia_merkle.specs.Segments.{cover, joined_within, others, segment_roots, Joins}
 use Rattle.sia_diff.specs.declared.steps.DiffStep.{DiffStep}
-use Rattle.sia_diff.specs.Steps.{after, count_after, is_touched}
+use Rattle.sia_diff.specs.Steps.{after, count_after, is_touched, touched_places}
 
 -- The places whose hashes are joined one by one: the old ones that are touched, and all from the old count on. The others
 -- are the untouched old places, which are there before and after the steps.
@@ -44,3 +44,16 @@ new_tree count steps leaves nodes =
 pub record IsDiffOf (root : List ℕ) (count : ℕ) (steps : List DiffStep) (leaves nodes : List (List ℕ)) : Type 0 where
   pub joins : Joins (touched_or_new count steps) count (map Given leaves) nodes (old_tree count steps leaves nodes)
   pub gives : hash_of (old_tree count steps leaves nodes) ≡ root
+
+-- the proof that a list makes of steps: its hashes at the touched places, and the roots of the cover of the untouched ones
+abbrev pub own_leaves : List (List ℕ) → List DiffStep → List (List ℕ)
+own_leaves hashes steps = map (λ place. slice_index_or hashes place []) (touched_places (length hashes) steps)
+
+abbrev pub own_nodes : List (List ℕ) → List DiffStep → List (List ℕ)
+own_nodes hashes steps = segment_roots hashes (cover (others (touched_or_new (length hashes) steps)) (length hashes))
+
+-- A proof is the list's own, and the new root is that of the list after the steps.
+pub record IsOwnDiff (hashes : List (List ℕ)) (steps : List DiffStep) (leaves nodes : List (List ℕ)) : Type 0 where
+  pub own_hashes : leaves ≡ own_leaves hashes steps
+  pub own_roots : nodes ≡ own_nodes hashes steps
+  pub gives : hash_of (new_tree (length hashes) steps leaves nodes) ≡ node_root_of (after hashes steps)

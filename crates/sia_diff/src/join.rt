@@ -9,7 +9,7 @@ ghost use Rattle.sia_diff.specs.Chosen.{is_chosen};
 use crate::chosen::{Chosen, power};
 use crate::cover::cover_len;
 use sia_blake::Hash;
-use sia_merkle::node_root;
+use sia_merkle::node;
 
 /// The height that every tree of at most 65,536 hashes fits.
 pub(crate) const HEIGHT: u32 = 16;
@@ -50,5 +50,5 @@ fn join_part(chosen: &Chosen<'_>, height: u32, low: u64, inner: &[Hash], outer: 
     let (outer_left, outer_right) = outer.split_at(outer_len as usize);
     let first = join_part(chosen, height - 1, low, inner_left, outer_left);
     let second = join_part(chosen, height - 1, low + half, inner_right, outer_right);
-    node_root(&[first, second])
+    node(&first, &second)
 }

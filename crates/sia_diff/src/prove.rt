@@ -2,8 +2,8 @@
 ghost use Rattle.std.specs.Prelude.{◌≡◌, ◌<◌, [], ℕ, IfOk, IsTrue, length, map, slice_index, slice_index_or};
 ghost use Rattle.sia_merkle.specs.Segments.{cover, others, segment_roots};
 ghost use Rattle.sia_diff.specs.Chosen.{is_chosen};
-ghost use Rattle.sia_diff.specs.Diffs.{touched_or_new};
-ghost use Rattle.sia_diff.specs.Steps.{is_fit, touched_places};
+ghost use Rattle.sia_diff.specs.Diffs.{own_leaves, own_nodes};
+ghost use Rattle.sia_diff.specs.Steps.{is_fit};
 
 use crate::chosen::Chosen;
 use crate::cover::append_cover;
@@ -25,8 +25,8 @@ pub fn prove_diff<N: Nodes>(
     steps: &[DiffStep],
 ) -> Result<DiffProof, AllocError>
     requires fit { IsTrue (is_fit (length (N.hashes nodes.now)) steps.now) }
-    ensures leaves { IfOk result (λ proof. proof.leaves ≡ map (λ place. slice_index_or (N.hashes nodes.now) place []) (touched_places (length (N.hashes nodes.now)) steps.now)) }
-    ensures nodes { IfOk result (λ proof. proof.nodes ≡ segment_roots (N.hashes nodes.now) (cover (others (touched_or_new (length (N.hashes nodes.now)) steps.now)) (length (N.hashes nodes.now)))) }
+    ensures leaves { IfOk result (λ proof. proof.leaves ≡ own_leaves (N.hashes nodes.now) steps.now) }
+    ensures nodes { IfOk result (λ proof. proof.nodes ≡ own_nodes (N.hashes nodes.now) steps.now) }
 {
     let n = nodes.count();
     let touched = touched_by_fit(alloc, n, steps)?;

@@ -4,7 +4,7 @@ use Rattle.sia_merkle.specs.Computations.Tree.{Given}
 use Rattle.sia_merkle.specs.Roots.{node_digest}
 use Rattle.sia_merkle.specs.Segments.{cover_within, joined_within, others, places_within}
 use Rattle.sia_range.proofs.Covers.{cover_lower, left_len, right_len}
-use Rattle.sia_range.proofs.Joins.{join_lower, root_of_two}
+use Rattle.sia_range.proofs.Joins.{join_lower}
 use Rattle.sia_diff.specs.Chosen.{is_chosen}
 use Rattle.sia_diff.proofs.Parts.{places_cut, places_left, places_right, hash_clear, clear_some, one_place, hash_one, hash_both}
 use Rattle.sia_diff.proofs.join.+join_part.Goals as goal
@@ -64,7 +64,7 @@ pub returns : goal.returns
 returns t c =
     let is : c.args.height ≡ suc (c.args.height - 1) = omega (arith, c.if-height-eq0.false) in
     let above : c.args.low + 2 ^ (c.args.height - 1) < c.args.chosen.now.count = omega (arith, c.power-half.ensures) in
-    c.node_root.ensures ∙ root_of_two c.join_part-first.result c.join_part-second.result
+    c.node.ensures
     ∙ ap (λ hash. node_digest hash c.join_part-second.result) c.join_part-first.ensures
     ∙ ap (node_digest (hash_of (joined_within (is_chosen c.args.chosen.now.old c.args.chosen.now.touched.now) c.args.chosen.now.count (c.args.height - 1) c.args.low (map Given c.split_at.result.0.now) c.split_at-2.result.0.now)))
     (c.join_part-second.ensures ∙ ap (λ h. hash_of (joined_within (is_chosen c.args.chosen.now.old c.args.chosen.now.touched.now) c.args.chosen.now.count (c.args.height - 1) (c.args.low + h) (map Given c.split_at.result.1.now) c.split_at-2.result.1.now)) c.power-half.ensures)
