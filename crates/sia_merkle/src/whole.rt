@@ -1,6 +1,6 @@
 //! The root of what stands whole in memory.
 ghost use Rattle.std.specs.Prelude.{◌≡◌, ◌*◌, ◌^◌, ◌<◌, ◌≤◌, length, take, drop};
-ghost use Rattle.sia_merkle.specs.Roots.{leaf_at, leaf_count, leaves_of, node_digest, node_root_of, root_of};
+ghost use Rattle.sia_merkle.specs.Roots.{leaf_count, leaves_of, node_digest, node_root_of, root_of};
 
 use crate::groups::{GROUP, GROUP_LEN, group_root, leaf_group_root};
 use crate::stack::RootStack;
