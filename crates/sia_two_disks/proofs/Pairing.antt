@@ -1,16 +1,16 @@
 -- What a pair of images opens as, after each step of an act.
-use Rattle.std.proofs.Common.{◌≡◌, ◌≢◌, ◌⊎◌, inl, inr, ℕ, ◌<◌, ◌≤◌, ◌^◌, List, [], ◌∷◌, ◌++◌, length, Ok, refl, sym, ap, subst, ◌∙◌, arith}
+use Rattle.std.proofs.Common.{◌≡◌, ◌≢◌, ◌⊎◌, inl, inr, ℕ, ◌<◌, ◌≤◌, ◌^◌, List, [], ◌∷◌, ◌++◌, length, Result, Ok, Err, refl, sym, ap, subst, ◌∙◌, arith}
 use Rattle.std.specs.Prelude.{slice_index_or}
 use Rattle.std.specs.List.{All}
 use Rattle.std.proofs.lemmas.Nat.{from_le_bytes-to_le_bytes_8}
 use Rattle.std.proofs.lemmas.List.Elements.{All-push}
 use Rattle.std.proofs.lemmas.List.Quantifiers.{all_pairs_push}
-use Rattle.sia_edge.specs.Disk.{Follows, Earlier}
+use Rattle.sia_edge.specs.Disk.{Follows, Earlier, Only}
 use Rattle.sia_encoding.specs.Spelling.{spelled_u64}
 use Rattle.sia_merkle.specs.Roots.{leaves_of, root_of}
 use Rattle.sia_journal.specs.declared.journal.Journal.{Journal}
 use Rattle.sia_journal.specs.Listed.{HEADER, at_rest, listed}
-use Rattle.sia_journal.specs.Journal.{Holds, IsReady}
+use Rattle.sia_journal.specs.Journal.{Holds, IsReady, Opens}
 use Rattle.sia_shelf.specs.Slots.{Has, InEach, KeepsOthers, slot_of}
 use Rattle.sia_two_disks.specs.Entries.{entry_of, slot_named, root_named}
 use Rattle.sia_two_disks.specs.Pairs.{IsWhole, NamedOnce, IsUnnamed, OpensAs, OpensAsEither, EachPair, LeavesPairs, Stands}
@@ -61,6 +61,20 @@ stands_open seen moment since journal header records limit sector images law siz
       whole = stands.whole image left;
       once = stands.once;
     }
+
+abbrev listed_of : Result (List (List ℕ)) ℕ → List (List ℕ)
+listed_of (Ok records) = records
+listed_of (Err place) = []
+
+-- a pair that opens as records, opened again
+pub again_stands : {J : Type 0} (seen : J → List ℕ) (moment : J → ℕ) (since : J → ℕ → List ℕ → Type 0) (header : List ℕ) (limit sector : ℕ) (records : List (List ℕ))
+    (old new : J) (image : List ℕ) (images : List ℕ → Type 0) → OpensAs header limit sector records (seen old) image → Opens seen moment since header limit old new
+    → Only image images → Stands seen moment since header records sector new images
+again_stands seen moment since header limit sector records old new image images pair opens only =
+    let same : opens.records ≡ records = ap listed_of (sym opens.lists ∙ pair.lists) in
+    let P : List (List ℕ) → Type 0 = λ some. Holds seen moment since header some new in
+    let Q : List ℕ → Type 0 = λ held. All (IsWhole sector held) records in
+    record { holds = subst P same opens.holds; whole = λ held left. subst Q (sym (only held left)) pair.whole; once = pair.once }
 
 module _ (header : List ℕ) (limit sector slot : ℕ) (records : List (List ℕ)) (payload bytes : List ℕ)
     (once : NamedOnce records) (unnamed : IsUnnamed slot records) (fits : slot < 2 ^ 64) (named : payload ≡ entry_of slot (root_of (leaves_of bytes))) where

@@ -7,12 +7,14 @@
 //! the records before or as those and the new one, that each slot which the opened records name holds a whole sector with the
 //! root that they name, and that no slot is named twice. After an act that was done every pair opens as the new list.
 //!
+//! A pair that opens as some records, opened again, stands for these ([`laws`]), so the next act begins where a crash left off.
 //! These promises are each act's own: a pair whose parts come from two acts is none of them. specs/Pairs.antt says what a pair
 //! opens as. The crate stands on `sia_journal` and `sia_shelf` for the disks, and on `sia_merkle` for the root.
 #![tactic(auto)]
 
 mod entry;
 mod fault;
+pub mod laws;
 mod storing;
 
 pub use fault::StoreFault;
