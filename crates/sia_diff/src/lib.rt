@@ -33,3 +33,6 @@ pub use laws::{another_diff_collides, own_diff_is_accepted};
 pub use places::touched;
 pub use prove::prove_diff;
 pub use steps::DiffStep;
+
+#[cfg(test)]
+mod tests;
