@@ -63,8 +63,8 @@ agree_step chosen (step.Trim fewer) count first second is is' fits touches agree
     let same : length first - fewer ≡ length second - fewer = omega arith in
     take_by first second (length first - fewer) place (is ∙ sym is') (agree place here) (nat_lt place (length first - fewer)) refl ∙ ap (λ n. get_or (take n second) place []) same
 agree_step chosen (step.Swap i j) count first second is is' fits touches agree = λ place here.
-    let i_within : i < count = ltb-true _ _ (left_of_and _ _ fits) in
-    let j_within : j < count = ltb-true _ _ (right_of_and _ _ fits) in
+    let i_within : i < count = ltb-true i count (left_of_and (nat_lt i count) (nat_lt j count) fits) in
+    let j_within : j < count = ltb-true j count (right_of_and (nat_lt i count) (nat_lt j count) fits) in
     let at_i : get_or first i [] ≡ get_or second i [] = agree i (touches i (first_place i j)) in
     let at_j : get_or first j [] ≡ get_or second j [] = agree j (touches j (second_place i j)) in
     set_by (set first i (get_or first j [])) (set second i (get_or second j [])) j place (get_or first i []) (get_or second i [])
