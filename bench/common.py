@@ -23,9 +23,12 @@ def build_bench():
 
 
 def build_program():
-    """Builds the program by the script at the top, and gives its path."""
-    subprocess.run([TOP / "sia-v1"], stdin=subprocess.DEVNULL, stdout=subprocess.DEVNULL, stderr=subprocess.DEVNULL)
-    return TOP / "crates" / "sia_v1" / "out" / "sia_v1"
+    """Proves and builds the program as the gate does, for any processor, unless it is there, and gives its path."""
+    folder = TOP / "crates" / "sia_v1"
+    program = folder / "out" / "sia_v1"
+    if not program.exists():
+        subprocess.run(["rt", "run"], cwd=folder, stdin=subprocess.DEVNULL, stdout=subprocess.DEVNULL, stderr=subprocess.DEVNULL)
+    return program if program.exists() else sys.exit(f"{sys.argv[0]}: sia_v1 does not build")
 
 
 def on_disk(where):
