@@ -174,15 +174,16 @@ fn worked(alloc: Global, disk: MemDisk) -> Result<(Stage, MemDisk), Fail> {
 fn around_a_failed_call_the_list_is_the_old_one_or_the_new_one(
     rt: HostRuntime,
 ) -> Result<(), Fail> {
-    let file = [HEADER.as_slice(), A, BC, &[0]].concat(rt.alloc())?;
-    for fails in 0..15u64 {
+    let file = [HEADER.as_slice(), A, BC, A, BC, A, &[0]].concat(rt.alloc())?;
+    for fails in 0..21u64 {
         let wanted = match fails {
             0..4 => Stage::Opening,
             4..8 => Stage::Appending,
-            8..14 => Stage::Reading,
+            8..20 => Stage::Reading,
             _ => Stage::Done,
         };
-        let text: &[u8] = if fails < 7 { b"a,bc," } else { b"a,bc,d," };
+        let old: &[u8] = b"a,bc,a,bc,a,";
+        let text: &[u8] = if fails < 7 { old } else { b"a,bc,a,bc,a,d," };
         let (stage, left) = worked(rt.alloc(), disk(rt.alloc(), file.as_slice(), &[fails])?)?;
         assert_eq!(rt; stage, wanted, "call {fails}");
         let again = listed(rt.alloc(), disk(rt.alloc(), left.bytes(), &[])?, 99)?;

@@ -24,6 +24,27 @@ fn a_proof_is_its_two_lists_of_hashes(rt: HostRuntime) -> Result<(), Fail> {
     Ok(())
 }
 
+#[test]
+fn a_diff_proof_is_its_hashes_and_its_roots(rt: HostRuntime) -> Result<(), Fail> {
+    let mut nodes = List::new(rt.alloc());
+    nodes.push([8; 32])?;
+    let proof = DiffProof {
+        leaves: List::new(rt.alloc()),
+        nodes,
+    };
+    let mut out = Blob::new(rt.alloc());
+    proof.copy(rt.alloc())?.encode(&mut out)?;
+    let mut spelled = Blob::from_slice(rt.alloc(), &[0, 0, 0, 0, 0, 0, 0, 0, 1])?;
+    spelled.extend(&[0; 7])?;
+    spelled.extend(&[8; 32])?;
+    assert_eq!(rt; out.as_slice(), spelled.as_slice());
+    let taken = DiffProof::decode(rt.alloc(), spelled.as_slice(), 1).map_err(|_| "a fault")?;
+    assert_eq!(rt; taken.0.leaves.len(), 0);
+    assert_eq!(rt; taken.0.nodes.as_slice(), [[8; 32]].as_slice());
+    assert_eq!(rt; taken.1, 48);
+    Ok(())
+}
+
 fn diff_fault(rt: &HostRuntime, bytes: &[u8]) -> Option<DecodeFault> {
     DiffProof::decode(rt.alloc(), bytes, 1).err()
 }
