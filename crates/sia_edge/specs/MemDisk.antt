@@ -42,9 +42,11 @@ Had start events moment c = (k : ℕ) × (moment ≤ k) × (k ≤ length events)
 abbrev pub since_of : DiskState → ℕ → List ℕ → Type 0
 since_of disk moment c = Had disk.start disk.events moment c ⊎ ((moment ≤ length disk.events) × (c ≡ disk.bytes))
 
+-- the clock counts events
 abbrev pub moment_of : DiskState → ℕ
 moment_of disk = length disk.events
 
+-- the bytes are one of the images after all events
 abbrev pub ReadIsImage : List ℕ → List Event → List ℕ → Type 0
 ReadIsImage start events bytes = ImagesOf start events bytes
 

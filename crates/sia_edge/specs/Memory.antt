@@ -32,9 +32,11 @@ abbrev pub given : ℕ → Got
 given zero = got.End
 given (suc n) = got.Bytes (suc n)
 
+-- what a read answers over these bytes
 abbrev pub given_of : List ℕ → ℕ → Got
 given_of left room = given (min room (length left))
 
+-- and what it leaves of them
 abbrev pub left_after : List ℕ → ℕ → List ℕ
 left_after left room = drop (min room (length left)) left
 

@@ -6,7 +6,8 @@
 //! - `Source` and `Sink`: contracts see the bytes that a source has left and those that a sink took, where the implementation
 //!   tells them. `read_to_bound` and `write_all` are the loops over them.
 //! - `Disk`: contracts see its length, what a read gives where it is told, and the images that a crash may leave, now and
-//!   since each earlier moment (specs/Disk.antt has the model). `read_whole` and `read_into` read a range of it.
+//!   since each earlier moment (specs/Disk.antt has the model). `read_whole`, `read_into` and `read_onto` read a range of
+//!   it.
 //! - The objects in memory (`MemSource`, `SureSource`, `MemSink`, `MemDisk`) tell their bytes, and say by number which of
 //!   their calls fail.
 //! - The adapters over the system (`FileSource`, `FileSink`, `StdSink`, `FileDisk`) tell none, since no contract can say what a
@@ -32,7 +33,7 @@ pub use fault_plan::FaultPlan;
 pub use file_disk::{Disks, FileDisk};
 pub use mem_disk::{Event, MemDisk};
 pub use memory::{MemSink, MemSource, SureSource};
-pub use read_disk::{ReadFault, read_into, read_whole};
+pub use read_disk::{ReadFault, read_into, read_onto, read_whole};
 pub use system::{FileSink, FileSource, StdSink};
 pub use traits::{Got, Put, Sink, Source};
 

@@ -1,5 +1,5 @@
 //! Reading a range of a disk whole.
-ghost use Rattle.std.specs.Prelude.{◌≡◌, ◌+◌, ◌≤◌, ◌<◌, ◌++◌, ℕ, IsTrue, List, length, take, drop, slice_index, OnOk, OnErr, IfErr};
+ghost use Rattle.std.specs.Prelude.{◌≡◌, ◌≢◌, ◌+◌, ◌≤◌, ◌<◌, ◌++◌, ℕ, Err, IsTrue, List, length, take, drop, slice_index, vec_len, vec_capacity, OnOk, OnErr, IfErr};
 ghost use Rattle.sia_edge.specs.Edge.{Rose};
 ghost use Rattle.sia_edge.specs.declared.read_disk.ReadFault.TheVariants.{Memory};
 ghost use Rattle.sia_edge.specs.Disk.{Quiet, DidCause, Fills};
@@ -63,13 +63,14 @@ pub fn read_into<D: Disk>(
     ensures failed { IfErr result (λ fault. fault ≡ ReadFault.Failed → Rose (D.faults disk.old) (D.faults disk.new)) }
 {
     let mut bytes = mem::replace(out, Blob::new(alloc)).into_vec();
-    let read = append_range(disk, at, count, &mut bytes);
+    let read = read_onto(disk, at, count, &mut bytes);
     *out = Blob::from_vec(bytes);
     read
 }
 
-/// Appends so many bytes at a place.
-fn append_range<D: Disk>(
+/// Appends so many bytes at a place to a `Vec`, whose elements stay as they were after an `Err`. `Memory` never comes where
+/// it has room for them.
+pub fn read_onto<D: Disk>(
     disk: &mut D,
     at: u64,
     count: u64,
@@ -79,6 +80,7 @@ fn append_range<D: Disk>(
     ensures bytes { IsTrue D.tells → OnOk result (bytes.new.items ≡ bytes.old.items ++ take count (drop at (D.seen disk.old))) }
     ensures size { OnOk result (length bytes.new.items ≡ length bytes.old.items + count) }
     ensures err { OnErr result (bytes.new.items ≡ bytes.old.items) }
+    ensures room { vec_len bytes.old + count ≤ vec_capacity bytes.old → result ≢ Err ReadFault.Memory }
     ensures quiet { Quiet D.seen D.moment D.since disk.old disk.new }
     ensures later { D.faults disk.old ≤ D.faults disk.new }
     ensures failed { IfErr result (λ fault. fault ≡ ReadFault.Failed → Rose (D.faults disk.old) (D.faults disk.new)) }

@@ -64,6 +64,7 @@ siafund_sum funds = sum_by (λ fund. fund.value) funds
 abbrev pub is_whole_issue : List FundOutput → Bool
 is_whole_issue funds = nat_le 1 (length funds) && nat_le (length funds) 100 && (siafund_sum funds == 10000)
 
+-- the outputs, if they are
 abbrev pub whole_issue : List FundOutput → Option (List FundOutput)
 whole_issue funds = if is_whole_issue funds then Some funds else None
 

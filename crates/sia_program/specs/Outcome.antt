@@ -20,11 +20,12 @@ use Rattle.sia_program.specs.Feed.{entries_of}
 use Rattle.sia_program.specs.Steps.{◌>>=◌, or_config_refused, or_refused}
 use Rattle.sia_program.specs.Texts.{prove_text, root_text, sums_text}
 
--- a block behind a chain, or the rule that it breaks
+-- a block behind a chain, or the rule of which it is judged that it breaks it
 abbrev pub judged : Chain → Block → Option BlockFault → Result Chain Refusal
 judged chain block None = Ok (extended chain block)
 judged chain block (Some fault) = Err (refusal.Block (height chain) fault)
 
+-- a block behind a chain, or the first rule that it breaks there
 unfoldable pub applied : Chain → Block → Result Chain Refusal
 applied chain block = judged chain block (refusal_of chain block)
 
@@ -32,6 +33,7 @@ applied chain block = judged chain block (refusal_of chain block)
 unfoldable pub reverted : Chain → Result Chain Refusal
 reverted chain = if height chain == 0 then Err refusal.NoBlock else Ok (shortened chain)
 
+-- one record of a feed
 abbrev pub stepped : Chain → Entry → Result Chain Refusal
 stepped chain (entry.Apply block) = applied chain block
 stepped chain entry.Revert = reverted chain

@@ -33,6 +33,7 @@ config_stop config_fault.Text = stop.Refused refusal.ConfigText
 config_stop (config_fault.Key key) = stop.Refused (refusal.ConfigKey key)
 config_stop config_fault.Memory = stop.Memory
 
+-- the parameters of a configuration, or the end of the command
 abbrev pub or_config_refused : {A : Type 0} → Result A ConfigFault → Result A Stop
 or_config_refused (Ok x) = Ok x
 or_config_refused (Err config_fault) = Err (config_stop config_fault)

@@ -22,6 +22,7 @@ mark_of marks slot = slice_index_or marks slot mark.Free
 abbrev pub with_mark : {D : Type 0} → ShelfState D → ℕ → Mark → ShelfState D
 with_mark shelf slot to = record { disk = shelf.disk; sector = shelf.sector; marks = slice_set shelf.marks slot to }
 
+-- whether a mark is that of a free slot
 abbrev pub is_free : Mark → Bool
 is_free mark.Free = true
 is_free mark.Put = false
@@ -31,6 +32,7 @@ is_free mark.Live = false
 abbrev pub free_from : ℕ → List Mark → List ℕ
 free_from first marks = map (λ numbered. numbered.0) (filter (λ numbered. is_free numbered.1) (enumerate_from first marks))
 
+-- the numbers of the free slots, the least first
 abbrev pub free_slots : List Mark → List ℕ
 free_slots marks = free_from 0 marks
 

@@ -1,5 +1,5 @@
 //! A shelf that is open.
-ghost use Rattle.std.specs.Prelude.{◌≡◌, ◌≢◌, ◌↔◌, ◌++◌, ℕ, ◌+◌, ◌*◌, ◌^◌, ◌<◌, ◌≤◌, List, IsTrue, false, IfOk, IfErr, OnOk, OnErr, Err, length, map, take, drop, replicate};
+ghost use Rattle.std.specs.Prelude.{◌≡◌, ◌≢◌, ◌↔◌, ◌++◌, ℕ, ◌+◌, ◌*◌, ◌^◌, ◌<◌, ◌≤◌, List, IsTrue, false, IfOk, IfErr, OnOk, OnErr, Err, length, map, take, drop, replicate, vec_len, vec_capacity};
 ghost use Rattle.sia_edge.specs.Disk.{Passes, Follows, NoneMore, Only, Quiet};
 ghost use Rattle.sia_shelf.specs.Slots.{IsSectorSize, Has, InEach, KeepsOthers, end_of, slot_of};
 ghost use Rattle.sia_shelf.specs.Shelf.{ShelfState, mark_of, with_mark, free_slots, settled, LowerTaken, KeepsLive, DiskFault, ReadCause};
@@ -7,10 +7,11 @@ ghost use Rattle.sia_shelf.specs.Shelf.{ShelfState, mark_of, with_mark, free_slo
 use crate::fault::{ShelfFault, done};
 use crate::mark::{Mark, all_free, find_free, settle};
 use crate::slot::{place_of, write_slot};
-use sia_edge::{Disk, ReadFault, read_into};
+use sia_edge::{Disk, ReadFault, read_onto};
 use sia_encoding::{Blob, List};
 use std::alloc::{AllocError, Global};
 use std::marker::Model;
+use std::mem;
 
 /// Sectors in the slots of a disk.
 #[derive(Drop)]
@@ -124,7 +125,8 @@ impl<D: Disk> Shelf<D> {
     }
 
     /// Appends the bytes of a slot to `out`, which stays as it was after an `Err`. `Short` comes exactly where the disk ends
-    /// before the slot does, so only of a free slot. `Memory` never comes where `out` is empty and has room for a sector.
+    /// before the slot does, so only of a free slot. A `Blob` doesn't show its room; [`Shelf::read_onto`] is the same over a
+    /// `Vec`, of which it is told that `Memory` doesn't come where there is room.
     pub fn read(&mut self, alloc: Global, slot: u64, out: &mut Blob) -> Result<(), ShelfFault>
         ensures bytes { IsTrue D.tells → OnOk result (out.new ≡ out.old ++ slot_of self.old.sector slot (D.seen self.old.disk)) }
         ensures size { OnOk result (length out.new ≡ length out.old + self.old.sector) }
@@ -137,10 +139,30 @@ impl<D: Disk> Shelf<D> {
         ensures later { D.faults self.old.disk ≤ D.faults self.new.disk }
         ensures cause { IfErr result (ReadCause (D.faults self.old.disk) (D.faults self.new.disk) self.old.sector slot (length (D.seen self.old.disk))) }
     {
+        let mut bytes = mem::replace(out, Blob::new(alloc)).into_vec();
+        let read = self.read_onto(slot, &mut bytes);
+        *out = Blob::from_vec(bytes);
+        read
+    }
+
+    /// The same over a `Vec`. `Memory` never comes where it has room for a sector behind its elements.
+    pub fn read_onto(&mut self, slot: u64, out: &mut Vec<u8>) -> Result<(), ShelfFault>
+        ensures bytes { IsTrue D.tells → OnOk result (out.new.items ≡ out.old.items ++ slot_of self.old.sector slot (D.seen self.old.disk)) }
+        ensures size { OnOk result (length out.new.items ≡ length out.old.items + self.old.sector) }
+        ensures err { OnErr result (out.new.items ≡ out.old.items) }
+        ensures room { vec_len out.old + self.old.sector ≤ vec_capacity out.old → result ≢ Err ShelfFault.Memory }
+        ensures short { length (D.seen self.old.disk) < end_of self.old.sector slot → result ≡ Err (ShelfFault.Short slot) }
+        ensures whole { mark_of self.old.marks slot ≢ Mark.Free → end_of self.old.sector slot ≤ length (D.seen self.old.disk) }
+        ensures marks { self.new.marks ≡ self.old.marks }
+        ensures sector { self.new.sector ≡ self.old.sector }
+        ensures quiet { Quiet D.seen D.moment D.since self.old.disk self.new.disk }
+        ensures later { D.faults self.old.disk ≤ D.faults self.new.disk }
+        ensures cause { IfErr result (ReadCause (D.faults self.old.disk) (D.faults self.new.disk) self.old.sector slot (length (D.seen self.old.disk))) }
+    {
         let Some(place) = place_of(self.disk.length(), self.sector, slot) else {
             return Err(ShelfFault::Short { slot });
         };
-        match read_into(alloc, &mut self.disk, place, self.sector, out) {
+        match read_onto(&mut self.disk, place, self.sector, out) {
             Ok(()) => Ok(()),
             Err(ReadFault::Failed) => Err(ShelfFault::Disk),
             Err(ReadFault::Memory) => Err(ShelfFault::Memory),

@@ -67,6 +67,9 @@ fn a_sector_is_read_as_it_was_put(rt: HostRuntime) -> Result<(), Fail> {
         shelf.read(rt.alloc(), 2, &mut out),
         Err(ShelfFault::Short { slot: 2 })
     );
+    let mut room = Vec::with_capacity(rt.alloc(), SECTOR)?;
+    assert_eq!(rt; shelf.read_onto(1, &mut room), Ok(()));
+    assert_eq!(rt; room.as_slice(), [8; SECTOR].as_slice());
     assert_eq!(rt; shelf.close().bytes().len(), 2 * SECTOR);
     Ok(())
 }
