@@ -4,7 +4,8 @@ use Rattle.std.proofs.Math.Seq.{take-append_seam}
 use Rattle.std.specs.Result.{result_unwrap_or}
 use Rattle.sia_encoding.specs.declared.fault.DecodeFault.{DecodeFault}
 use Rattle.sia_encoding.specs.declared.fault.DecodeFault.TheVariants as fault
-use Rattle.sia_encoding.specs.Reading.{Spot, past, ◌>>=◌}
+use Rattle.sia_encoding.specs.Answer.{◌>>=◌}
+use Rattle.sia_encoding.specs.Reading.{Spot, past}
 use Rattle.sia_encoding.specs.Codec.{AreBytes, spot, IsSpelled, IsCodec, IsFixed, spelled_fixed}
 use Rattle.sia_encoding.proofs.CodecLemmas.{codec, fixed_codec, followed, still_bytes, then_holds, then_is}
 use Rattle.sia_encoding.proofs.ItemLemmas.{list_codec}
