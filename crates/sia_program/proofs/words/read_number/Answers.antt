@@ -1,7 +1,7 @@
 use Rattle.std.proofs.Common.{sym, ◌∙◌, subst}
 use Rattle.std.specs.Str.Parse.{ParsesUnsigned}
 use Rattle.sia_program.proofs.Numbers.{number_otherwise, number_no_text, number_parsed}
-use Rattle.sia_program.proofs.form.read_number.Goals as goal
+use Rattle.sia_program.proofs.words.read_number.Goals as goal
 
 pub returns-then-has_sign_or_zeros : goal.returns-then-has_sign_or_zeros
 returns-then-has_sign_or_zeros c = number_otherwise c.args.word.now (sym c.if-has_sign_or_zeros.ensures)

@@ -1,8 +1,8 @@
 use Rattle.std.proofs.Common.{◌≡◌, ◌++◌, ◌∙◌, ap}
 use Rattle.std.specs.Prelude.{codes, string_bytes}
-use Rattle.sia_program.specs.Texts.{line}
-use Rattle.sia_program.proofs.Lines.{lines_more, lines_over}
-use Rattle.sia_program.proofs.texts.put_hashes.Goals as goal
+use Rattle.sia_program.specs.Lines.{line}
+use Rattle.sia_program.proofs.HashLines.{lines_more, lines_over}
+use Rattle.sia_program.proofs.commands.prove.put_hashes.Goals as goal
 
 pub loop-hash-preserved : goal.loop-hash-preserved
 loop-hash-preserved c =

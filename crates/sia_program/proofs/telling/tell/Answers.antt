@@ -1,7 +1,7 @@
 use Rattle.std.proofs.Common.{◌≡◌, refl, sym, ◌∙◌, inl}
-use Rattle.sia_program.specs.Texts.{stop_line}
+use Rattle.sia_program.specs.Lines.{stop_line}
 use Rattle.sia_program.specs.declared.stop.Stop.TheVariants as stop
-use Rattle.sia_program.proofs.plain.tell.Goals as goal
+use Rattle.sia_program.proofs.telling.tell.Goals as goal
 
 pub returns-in-Ok : goal.returns-in-Ok
 returns-in-Ok g c =

@@ -1,7 +1,7 @@
 use Rattle.std.proofs.Common.{◌≡◌, ◌++◌, drop}
 use Rattle.std.specs.Prelude.{string_bytes}
-use Rattle.sia_program.specs.Texts.{hash_lines}
-use Rattle.sia_program.proofs.texts.put_hashes.Given as goal
+use Rattle.sia_program.specs.Commands.Prove.{hash_lines}
+use Rattle.sia_program.proofs.commands.prove.put_hashes.Given as goal
 
 -- the lines that are written and those of the hashes that are left make all of them
 abbrev pub invariant-loop-hash : goal.invariant-loop-hash

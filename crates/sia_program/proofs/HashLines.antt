@@ -3,7 +3,8 @@ use Rattle.std.proofs.Common.{◌≡◌, ℕ, ◌+◌, ◌<◌, ◌≤◌, List,
 use Rattle.std.specs.Prelude.{codes}
 use Rattle.std.proofs.lemmas.List.{append-nil, append_assoc, drop_all, drop_more}
 use Rattle.hex.specs.Hex.{encode_lower}
-use Rattle.sia_program.specs.Texts.{hash_lines, line}
+use Rattle.sia_program.specs.Commands.Prove.{hash_lines}
+use Rattle.sia_program.specs.Lines.{line}
 
 lines_first : (hash : List ℕ) (hashes : List (List ℕ)) → hash_lines (hash ∷ hashes) ≡ line (codes "hash") (encode_lower hash) ++ hash_lines hashes
 unfolding hash_lines

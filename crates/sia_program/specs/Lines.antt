@@ -1,7 +1,7 @@
--- What is printed: ASCII lines that end with a line feed. Numbers are decimal, hashes 64 lower-case hexadecimal digits.
-use Rattle.std.specs.Prelude.{ℕ, ◌+◌, List, [], ◌∷◌, ◌++◌, codes, decimal}
+-- What is printed: ASCII lines that end with a line feed. Numbers are decimal, hashes 64 lower-case hexadecimal digits. Here stand
+-- the lines that commands share; those of one command stand with it.
+use Rattle.std.specs.Prelude.{ℕ, ◌+◌, List, [], ◌++◌, codes, decimal}
 use Rattle.hex.specs.Hex.{encode_lower}
-use Rattle.sia_ledger.specs.declared.sums.Sums.{Sums}
 use Rattle.sia_ledger.specs.declared.fault.BlockFault.{BlockFault}
 use Rattle.sia_ledger.specs.declared.fault.BlockFault.TheVariants as block_fault
 use Rattle.sia_program.specs.declared.config.ConfigKey.{ConfigKey}
@@ -15,36 +15,7 @@ use Rattle.sia_program.specs.declared.stop.Stop.TheVariants as stop
 unfoldable pub line : List ℕ → List ℕ → List ℕ
 line name value = name ++ (codes " " ++ (value ++ codes "\n"))
 
--- the sums of a chain and its tip
-unfoldable pub sums_text : Sums → List ℕ → List ℕ
-sums_text sums tip =
-    line (codes "height") (decimal sums.height) ++
-    line (codes "tip") (encode_lower tip) ++
-    line (codes "outputs") (decimal sums.outputs) ++
-    line (codes "immature") (decimal sums.immature) ++
-    line (codes "escrow") (decimal sums.escrow) ++
-    line (codes "pool") (decimal sums.pool) ++
-    line (codes "unclaimed") (decimal sums.unclaimed) ++
-    line (codes "issued") (decimal sums.issued)
-
--- the root of a file, how many leaves it has, and how many bytes
-unfoldable pub root_text : List ℕ → ℕ → ℕ → List ℕ
-root_text root leaves bytes = codes "root " ++ (encode_lower root ++ (codes " leaves " ++ (decimal leaves ++ (codes " bytes " ++ (decimal bytes ++ codes "\n")))))
-
--- a line for each hash of a proof, in order
-unfoldable pub hash_lines : List (List ℕ) → List ℕ
-hash_lines [] = []
-hash_lines (hash ∷ hashes) = line (codes "hash") (encode_lower hash) ++ hash_lines hashes
-
--- the root of a file and how many leaves it has
-unfoldable pub leaves_line : List ℕ → ℕ → List ℕ
-leaves_line root leaves = codes "root " ++ (encode_lower root ++ (codes " leaves " ++ (decimal leaves ++ codes "\n")))
-
--- the same, and then the hashes of a range's proof
-unfoldable pub prove_text : List ℕ → ℕ → List (List ℕ) → List ℕ
-prove_text root leaves hashes = leaves_line root leaves ++ hash_lines hashes
-
--- a refusal of a block: its number, its name, and its fields in order. `Memory` is no refusal and isn't printed.
+-- a rule that a block breaks: its number, its name, and its fields in order. Want of memory is none of them.
 unfoldable pub block_fault_text : BlockFault → List ℕ
 block_fault_text (block_fault.BadParent tip) = codes "B1 BadParent " ++ encode_lower tip
 block_fault_text block_fault.HeightEnd = codes "B3 HeightEnd"
@@ -62,7 +33,7 @@ unfoldable pub refusal_text : Refusal → List ℕ
 refusal_text refusal.ConfigText = codes "config text"
 refusal_text (refusal.ConfigKey key) = codes "config " ++ key_text key
 refusal_text refusal.FeedForm = codes "feed form"
-refusal_text (refusal.Block tip_height fault) = codes "block " ++ (decimal (tip_height + 1) ++ (codes " " ++ block_fault_text fault))
+refusal_text (refusal.Block tip_height rule) = codes "block " ++ (decimal (tip_height + 1) ++ (codes " " ++ block_fault_text rule))
 refusal_text refusal.NoBlock = codes "feed NoBlock"
 refusal_text refusal.Range = codes "range"
 
