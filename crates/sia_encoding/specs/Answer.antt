@@ -1,6 +1,6 @@
 -- What a call answered, beside what a definition says of it. Nothing of Sia stands here: it is how our contracts speak of a
 -- `Result` whose errors are the definition's, and want of memory.
-use Rattle.std.specs.Prelude.{◌≡◌, Option, Some, IfSome, Result, Ok, Err}
+use Rattle.std.specs.Prelude.{◌≡◌, Option, Some, None, IfSome, Result, Ok, Err}
 
 -- a step, and then another with its value; the first error ends them
 infixl 10 ◌>>=◌
@@ -17,3 +17,8 @@ Answers view told (Err e) said = IfSome (told e) (λ fault. said ≡ Err fault)
 -- each error is told as it is
 abbrev pub itself : {E : Type 0} → E → Option E
 itself e = Some e
+
+-- what a judgement says: its fault, or nothing where it has none
+abbrev pub unless : {F : Type 0} → Option F → Result (Unit {0}) F
+unless None = Ok tt
+unless (Some fault) = Err fault
