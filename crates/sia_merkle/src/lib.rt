@@ -31,7 +31,3 @@ pub use soundness::another_leaf_collides;
 pub use stack::RootStack;
 pub use whole::{leaves, node_root, root, root_splits};
 
-#[cfg(test)]
-mod group_tests;
-#[cfg(test)]
-mod tests;

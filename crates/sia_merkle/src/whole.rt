@@ -42,7 +42,7 @@ fn group_of(hashes: &[Hash], place: usize) -> &[Hash]
 }
 
 /// The root over leaves that are pushed one by one.
-pub(crate) fn root_by_leaf(bytes: &[u8]) -> Hash
+fn root_by_leaf(bytes: &[u8]) -> Hash
     ensures { result ≡ root_of (leaves_of bytes.now) }
 {
     let mut stack = RootStack::new();
@@ -53,7 +53,7 @@ pub(crate) fn root_by_leaf(bytes: &[u8]) -> Hash
 }
 
 /// The root over hashes that are pushed one by one.
-pub(crate) fn root_by_hash(hashes: &[Hash]) -> Hash
+fn root_by_hash(hashes: &[Hash]) -> Hash
     ensures { result ≡ node_root_of hashes.now }
 {
     let mut stack = RootStack::new();

@@ -1,19 +1,13 @@
-//! What no clause says: that the proofs are those of the world outside, and that calls that take memory succeed.
-use super::*;
+//! Proofs of the places 1 and 2 of six leaves, of three of five hashes, and an update of two leaves.
+use crate::bytes::message;
 use sia_blake::Hash;
 use sia_merkle::PlainNodes;
+use sia_range::{
+    check_nodes, check_range, prove_nodes, prove_range, prove_update, root_after_update,
+};
 use std::test::Fail;
 
-/// Six leaves, of which the last has 10 bytes. The byte at place i is i modulo 251.
-fn message() -> [u8; 330] {
-    let mut bytes = [0; 330];
-    for (i, byte) in bytes.iter_mut().enumerate() {
-        *byte = (i % 251) as u8;
-    }
-    bytes
-}
-
-/// Its root by Python's hashlib, with the recursion written out.
+/// The root over six leaves, of which the last has 10 bytes.
 const ROOT: Hash = [
     0x99, 0xc6, 0x23, 0xe7, 0x86, 0xd8, 0x3d, 0x23, 0x40, 0x4a, 0xbd, 0x45, 0xb8, 0x64, 0xcd, 0x4a,
     0x98, 0xd0, 0xaf, 0xa2, 0x9f, 0x0d, 0x73, 0x6d, 0xbe, 0xa4, 0x01, 0x7f, 0xed, 0x60, 0xfe, 0x2e,
@@ -101,7 +95,7 @@ const FIRST_TWO: Hash = [
 
 #[test]
 fn a_range_is_proved_by_the_cover_of_all_other_places(rt: HostRuntime) -> Result<(), Fail> {
-    let message = message();
+    let message = message::<330>();
     let proof = prove_range(rt.alloc(), &message, 1, 3)?;
     assert!(rt; proof.as_slice() == &PROOF[..]);
     assert!(rt; check_range(&ROOT, 6, 1, 3, &message[64..192], &PROOF).is_some());
@@ -117,7 +111,7 @@ fn a_range_is_proved_by_the_cover_of_all_other_places(rt: HostRuntime) -> Result
 
 #[test]
 fn a_range_with_any_bit_changed_is_refused(rt: HostRuntime) {
-    let message = message();
+    let message = message::<330>();
     for bit in 0..1024 {
         let mut changed = message;
         changed[64 + bit / 8] ^= 1 << (bit % 8);
@@ -130,7 +124,7 @@ fn a_range_with_any_bit_changed_is_refused(rt: HostRuntime) {
 
 #[test]
 fn a_proof_with_any_bit_changed_is_refused(rt: HostRuntime) {
-    let message = message();
+    let message = message::<330>();
     for bit in 0..768 {
         let mut changed = PROOF;
         changed[bit / 256][bit / 8 % 32] ^= 1 << (bit % 8);
@@ -163,7 +157,7 @@ fn hashes_are_proved_as_leaves_are(rt: HostRuntime) -> Result<(), Fail> {
 
 #[test]
 fn an_update_gives_the_root_of_the_changed_leaves(rt: HostRuntime) -> Result<(), Fail> {
-    let proof = prove_update(rt.alloc(), &message(), 1, 3)?;
+    let proof = prove_update(rt.alloc(), &message::<330>(), 1, 3)?;
     assert!(rt; proof.inner.as_slice() == &RANGE[..]);
     assert!(rt; proof.outer.as_slice() == &PROOF[..]);
     assert!(rt; root_after_update(&ROOT, 6, 1, 3, &proof, &[9; 128]) == Some(CHANGED_ROOT));

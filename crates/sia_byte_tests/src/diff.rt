@@ -1,7 +1,6 @@
-//! What no clause says: that the proofs are those of the world outside, and that calls that take memory succeed. The
-//! roots are those of Python's hashlib.
-use super::*;
+//! Diffs of five hashes, steps that aren't fit, and proofs that are refused.
 use sia_blake::Hash;
+use sia_diff::{DiffStep, check_diff, prove_diff, touched};
 use sia_encoding::List;
 use sia_merkle::PlainNodes;
 use sia_types::DiffProof;
