@@ -4,4 +4,5 @@ pub mod Whole
 pub mod Disk
 pub mod MemDisk
 pub mod FileDisk
+pub mod Filled
 pub mod Empty
