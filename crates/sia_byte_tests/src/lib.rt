@@ -3,12 +3,13 @@
 #![tactic(auto)]
 
 #[cfg(test)]
-mod bytes;
-
-#[cfg(test)]
 mod blake;
 #[cfg(test)]
+mod bytes;
+#[cfg(test)]
 mod diff;
+#[cfg(test)]
+mod encoding;
 #[cfg(test)]
 mod merkle;
 #[cfg(test)]
