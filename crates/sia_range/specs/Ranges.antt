@@ -32,10 +32,11 @@ part_between a b list = take (b - a) (drop a list)
 abbrev pub replaced : {X : Type 0} → ℕ → ℕ → List X → List X → List X
 replaced a b part list = take a list ++ (part ++ drop b list)
 
--- the roots of the cover of the places from a to b of so many hashes, and those of the cover of all others
+-- the roots of the cover of the places from a to b of so many hashes
 abbrev pub roots_inside : List (List ℕ) → ℕ → ℕ → ℕ → List (List ℕ)
 roots_inside hashes count a b = segment_roots hashes (cover (places_between a b) count)
 
+-- the roots of the cover of all others
 abbrev pub roots_outside : List (List ℕ) → ℕ → ℕ → ℕ → List (List ℕ)
 roots_outside hashes count a b = segment_roots hashes (cover (others (places_between a b)) count)
 
