@@ -16,7 +16,7 @@ fn disk(rt: &HostRuntime, fails: &[u64]) -> Result<MemDisk, Fail> {
 
 /// One write past the end, one cut, one sync and one read of all, on any disk of four bytes.
 fn work<D: Disk>(disk: &mut D) -> [bool; 4]
-    requires { length (D.seen disk.old) ≡ 4 }
+    requires { length (D.standing disk.old).seen ≡ 4 }
 {
     let written = disk.write_at(3, b"abc") == Did::Done;
     let end = disk.length().min(5);
