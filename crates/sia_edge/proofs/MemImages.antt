@@ -7,7 +7,7 @@ use Rattle.sia_edge.specs.declared.mem_disk.Event.TheVariants as event
 use Rattle.sia_edge.specs.declared.fault_plan.FaultPlan.{FaultPlan}
 use Rattle.sia_edge.specs.declared.disk.Did.{Did}
 use Rattle.sia_edge.specs.declared.disk.Did.TheVariants as did
-use Rattle.sia_edge.specs.Disk.{Passes, Steps, Quiet, Only, Torn, Shortened, images_of}
+use Rattle.sia_edge.specs.Disk.{TimePasses, Changes, Quiet, Only, Torn, Shortened, images_of}
 use Rattle.sia_edge.proofs.Tears.{torn_none, torn_all, shortened_none, shortened_all}
 use Rattle.sia_edge.specs.MemDisk.{DiskState, After, Images, ImagesOf, Had, standing_of, ReadIsImage, OverwritesOrKeeps, CutsOrKeeps}
 
@@ -63,7 +63,7 @@ had_now start events e t c le image =
 module _ (old new : DiskState) (e : Event) (start : new.start ≡ old.start) (grown : new.events ≡ old.events ++ e ∷ [])
     (counted : old.plan.faults ≤ new.plan.faults) where
   -- the clock goes on by one event
-  pub logged_passes : ReadIsImage old.start old.events old.bytes → Passes (standing_of old) (standing_of new)
+  pub logged_passes : ReadIsImage old.start old.events old.bytes → TimePasses (standing_of old) (standing_of new)
   logged_passes kept = rw (start, grown) (record {
     later = omega (arith, length-append old.events (e ∷ []));
     none_else = λ t c le left. elim left [
@@ -83,11 +83,11 @@ module _ (old new : DiskState) (e : Event) (start : new.start ≡ old.start) (gr
   })
 
   -- each image since is an old one after a step that may also do nothing
-  pub logged_steps : ReadIsImage old.start old.events old.bytes → (step : List ℕ → List ℕ → Type 0) → ((c : List ℕ) → step c c) → step old.bytes new.bytes
+  pub logged_changes : ReadIsImage old.start old.events old.bytes → (step : List ℕ → List ℕ → Type 0) → ((c : List ℕ) → step c c) → step old.bytes new.bytes
       → ((c : List ℕ) → After e (ImagesOf old.start old.events) c → (d : List ℕ) × ImagesOf old.start old.events d × step d c)
-      → Steps step (standing_of old) (standing_of new)
-  logged_steps kept step none all done = record {
-    passes = logged_passes kept;
+      → Changes step (standing_of old) (standing_of new)
+  logged_changes kept step none all done = record {
+    time = logged_passes kept;
     images = rw (start, grown) (λ c left. elim left [
       | inl had ↦ elim (had_after old.start old.events e (length old.events) c had) [
         | inl before ↦ (c, inl before, none c)
@@ -100,14 +100,14 @@ module _ (old new : DiskState) (e : Event) (start : new.start ≡ old.start) (gr
 module _ (old new : DiskState) (start : new.start ≡ old.start) (same : new.events ≡ old.events) (bytes : new.bytes ≡ old.bytes)
     (counted : old.plan.faults ≤ new.plan.faults) where
   -- a call that did nothing
-  pub idle_passes : Passes (standing_of old) (standing_of new)
+  pub idle_passes : TimePasses (standing_of old) (standing_of new)
   idle_passes = rw (start, same, bytes) (record { later = omega arith; none_else = λ t c le left. inl left; keeps = λ t c le left. left; counted = counted })
 
   pub idle_quiet : Quiet (standing_of old) (standing_of new)
-  idle_quiet = record { same = bytes; leaves = record { passes = idle_passes; images = rw (start, same, bytes) (λ c left. left) } }
+  idle_quiet = record { same = bytes; leaves = record { time = idle_passes; images = rw (start, same, bytes) (λ c left. left) } }
 
-  pub idle_steps : (step : List ℕ → List ℕ → Type 0) → ((c : List ℕ) → step c c) → Steps step (standing_of old) (standing_of new)
-  idle_steps step none = record { passes = idle_passes; images = rw (start, same, bytes) (λ c left. (c, left, none c)) }
+  pub idle_changes : (step : List ℕ → List ℕ → Type 0) → ((c : List ℕ) → step c c) → Changes step (standing_of old) (standing_of new)
+  idle_changes step none = record { time = idle_passes; images = rw (start, same, bytes) (λ c left. (c, left, none c)) }
 
 module _ (old new : DiskState) (start : new.start ≡ old.start) (grown : new.events ≡ old.events ++ event.Synced old.bytes ∷ [])
     (bytes : new.bytes ≡ old.bytes) (counted : old.plan.faults ≤ new.plan.faults) where
@@ -126,7 +126,7 @@ module _ (old new : DiskState) (start : new.start ≡ old.start) (grown : new.ev
   synced_quiet kept = record {
     same = bytes;
     leaves = record {
-      passes = logged_passes old new (event.Synced old.bytes) start grown counted kept;
+      time = logged_passes old new (event.Synced old.bytes) start grown counted kept;
       images = rw (start, grown, bytes) (λ c left. elim left [
         | inl had ↦ elim (had_after old.start old.events (event.Synced old.bytes) (length old.events) c had) [
           | inl before ↦ inl before

@@ -1,13 +1,13 @@
 -- Runs of calls of a disk. A proof carries a run from one call to the next by one line a call.
 use Rattle.std.proofs.Common.{ℕ, List, inl, inr, arith, refl, subst, ◌∙◌}
-use Rattle.sia_edge.specs.Disk.{Standing, Passes, Leaves, Steps, Quiet, Only, images_of, images_since}
+use Rattle.sia_edge.specs.Disk.{Standing, TimePasses, Leaves, Changes, Quiet, Only, images_of, images_since}
 
 -- no call passed
-pub stays : (disk : Standing) → Passes disk disk
+pub stays : (disk : Standing) → TimePasses disk disk
 stays disk = record { later = omega arith; none_else = λ t image le left. inl left; keeps = λ t image le left. left; counted = omega arith }
 
 -- what a crash left after two calls, where the second one leaves it from the moment of the first
-pub passes_on : {old mid new : Standing} → Passes old mid → Passes mid new → Passes old new
+pub passes_on : {old mid new : Standing} → TimePasses old mid → TimePasses mid new → TimePasses old new
 passes_on {old} {mid} {new} front back = record {
   later = omega (arith, front.later, back.later);
   none_else = λ t image le left. elim (back.none_else t image (omega (arith, front.later)) left) [
@@ -19,22 +19,22 @@ passes_on {old} {mid} {new} front back = record {
 }
 
 -- an image of now is one since any earlier standing
-pub now_since : {old new : Standing} → Passes old new → (image : List ℕ) → images_of new image → images_since old new image
+pub now_since : {old new : Standing} → TimePasses old new → (image : List ℕ) → images_of new image → images_since old new image
 now_since {old} {new} passes image left = new.earlier old.moment new.moment image passes.later (omega arith) left
 
 -- a run of no call, where each image has P already
 pub started : (disk : Standing) (P : List ℕ → Type 0) → ((image : List ℕ) → images_of disk image → P image) → Leaves P disk disk
-started disk P each = record { passes = stays disk; images = each }
+started disk P each = record { time = stays disk; images = each }
 
 -- what has P has Q
 pub weaken : {old new : Standing} {P Q : List ℕ → Type 0} → Leaves P old new → ((image : List ℕ) → P image → Q image) → Leaves Q old new
-weaken run each = record { passes = run.passes; images = λ image left. each image (run.images image left) }
+weaken run each = record { time = run.time; images = λ image left. each image (run.images image left) }
 
 -- a call more, whose images have P
 pub goes_on : {old mid new : Standing} {P Q : List ℕ → Type 0} → Leaves P old mid → Leaves Q mid new → ((image : List ℕ) → Q image → P image) → Leaves P old new
 goes_on {old} {mid} {new} run on each = record {
-  passes = passes_on run.passes on.passes;
-  images = λ image left. elim (on.passes.none_else old.moment image run.passes.later left) [
+  time = passes_on run.time on.time;
+  images = λ image left. elim (on.time.none_else old.moment image run.time.later left) [
     | inl before ↦ run.images image before
     | inr after ↦ each image (on.images image after)
   ];
@@ -42,7 +42,7 @@ goes_on {old} {mid} {new} run on each = record {
 
 -- what each image since the run began has, each image at its end has
 pub left_last : {old new : Standing} {P : List ℕ → Type 0} → Leaves P old new → (image : List ℕ) → images_of new image → P image
-left_last run image left = run.images image (now_since run.passes image left)
+left_last run image left = run.images image (now_since run.time image left)
 
 -- a call more that leaves no image that wasn't there
 pub quiet_run : {old mid new : Standing} {P : List ℕ → Type 0} → Leaves P old mid → Quiet mid new → Leaves P old new
@@ -61,6 +61,6 @@ pub quiet_only : {old new : Standing} {bytes : List ℕ} → Quiet old new → O
 quiet_only quiet only image left = only image (left_last quiet.leaves image left)
 
 -- each image of a step from the only one
-pub step_of_only : {bytes : List ℕ} {step : List ℕ → List ℕ → Type 0} {old new : Standing} → Only bytes (images_of old) → Steps step old new → Leaves (step bytes) old new
+pub step_of_only : {bytes : List ℕ} {step : List ℕ → List ℕ → Type 0} {old new : Standing} → Only bytes (images_of old) → Changes step old new → Leaves (step bytes) old new
 step_of_only {bytes} {step} only steps =
     weaken steps (λ image from. let P : List ℕ → Type 0 = λ before. step before image in subst P (only from.0 from.1) from.2)

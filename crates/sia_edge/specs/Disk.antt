@@ -87,7 +87,7 @@ Faulted old new = Rose old.faults new.faults
 
 -- Time passes over a disk in a call: what a crash may have left since an earlier moment is what it may have left until the
 -- call, and what it may have left since the call began. The count of faults doesn't fall.
-pub record Passes (old new : Standing) : Type 0 where
+pub record TimePasses (old new : Standing) : Type 0 where
   pub later : old.moment ≤ new.moment
   pub none_else : (t : ℕ) (image : List ℕ) → t ≤ old.moment → new.since t image → old.since t image ⊎ images_since old new image
   pub keeps : (t : ℕ) (image : List ℕ) → t ≤ old.moment → old.since t image → new.since t image
@@ -95,16 +95,16 @@ pub record Passes (old new : Standing) : Type 0 where
 
 -- What a call, or a run of calls, leaves: time passes, and each image since it began has P.
 pub record Leaves (P : List ℕ → Type 0) (old new : Standing) : Type 0 where
-  pub passes : Passes old new
+  pub time : TimePasses old new
   pub images : (image : List ℕ) → images_since old new image → P image
 
--- an image after a step
-abbrev pub Stepped : (List ℕ → List ℕ → Type 0) → (List ℕ → Type 0) → List ℕ → Type 0
-Stepped step images new = (old : List ℕ) × images old × step old new
+-- an image after a change
+abbrev pub Changed : (List ℕ → List ℕ → Type 0) → (List ℕ → Type 0) → List ℕ → Type 0
+Changed step images new = (old : List ℕ) × images old × step old new
 
--- a call makes a step: each image since it began is one from before after the step
-abbrev pub Steps : (List ℕ → List ℕ → Type 0) → Standing → Standing → Type 0
-Steps step old new = Leaves (Stepped step (images_of old)) old new
+-- a call makes a change: each image since it began is one from before with the change
+abbrev pub Changes : (List ℕ → List ℕ → Type 0) → Standing → Standing → Type 0
+Changes step old new = Leaves (Changed step (images_of old)) old new
 
 -- a call that changes nothing: a read gives the same, and there is no image that wasn't there before
 pub record Quiet (old new : Standing) : Type 0 where

@@ -1,6 +1,6 @@
 //! A disk: one file whose bytes stay, and what a crash may leave of them.
 ghost use Rattle.std.specs.Prelude.{◌≡◌, ◌+◌, ◌<◌, ◌≤◌, Bool, IsTrue, length};
-ghost use Rattle.sia_edge.specs.Disk.{Standing, GivesWithin, Gives, Quiet, Faulted, Lengthens, Overwrites, Steps, Torn, Cuts, Shortened, Settles, Leaves, images_of};
+ghost use Rattle.sia_edge.specs.Disk.{Standing, GivesWithin, Gives, Quiet, Faulted, Lengthens, Overwrites, Changes, Torn, Cuts, Shortened, Settles, Leaves, images_of};
 
 use crate::Got;
 
@@ -42,14 +42,14 @@ pub trait Disk {
         requires { at ≤ length (standing self.old).seen }
         ensures end { Lengthens result (at + length bytes.now) (length (standing self.old).seen) (length (standing self.new).seen) }
         ensures bytes { IsTrue tells → Overwrites result at bytes.now (standing self.old).seen (standing self.new).seen }
-        ensures steps { Steps (Torn at (length bytes.now)) (standing self.old) (standing self.new) }
+        ensures changes { Changes (Torn at (length bytes.now)) (standing self.old) (standing self.new) }
         ensures cause { result ≡ Did.Failed → Faulted (standing self.old) (standing self.new) };
 
     /// Cuts the disk to this length, in bytes.
     fn cut(&mut self, len: u64) -> Did
         requires { len ≤ length (standing self.old).seen }
         ensures bytes { Cuts result len (standing self.old).seen (standing self.new).seen }
-        ensures steps { Steps (Shortened len) (standing self.old) (standing self.new) }
+        ensures changes { Changes (Shortened len) (standing self.old) (standing self.new) }
         ensures cause { result ≡ Did.Failed → Faulted (standing self.old) (standing self.new) };
 
     /// After it is done a crash leaves what a read gives. It changes nothing that a read gives.

@@ -1,7 +1,7 @@
 //! A file of the system as a disk. No contract says which bytes it holds.
 ghost use Rattle.std.specs.Prelude.{◌≡◌, ◌+◌, ◌-◌, ◌^◌, ◌<◌, ◌≤◌, ℕ, false, Some, IfOk, IsNone, IsTrue, length};
 ghost use Rattle.sia_edge.specs.Edge.{GotWithin, PutWithin, Rose};
-ghost use Rattle.sia_edge.specs.Disk.{GivesWithin, Gives, Quiet, Faulted, Lengthens, Overwrites, Steps, Torn, Cuts, Shortened, Settles};
+ghost use Rattle.sia_edge.specs.Disk.{GivesWithin, Gives, Quiet, Faulted, Lengthens, Overwrites, Changes, Torn, Cuts, Shortened, Settles};
 ghost use Rattle.sia_edge.specs.FileDisk.{untold, standing_of};
 ghost use Rattle.sia_edge.specs.Empty.{StaysEmpty};
 
@@ -184,7 +184,7 @@ impl Disk for FileDisk {
         requires { at ≤ length (untold self.old.end) }
         ensures end { Lengthens result (at + length bytes.now) (length (untold self.old.end)) (length (untold self.new.end)) }
         ensures bytes { IsTrue false → Overwrites result at bytes.now (untold self.old.end) (untold self.new.end) }
-        ensures steps { Steps (Torn at (length bytes.now)) (standing_of self.old.end self.old.faults) (standing_of self.new.end self.new.faults) }
+        ensures changes { Changes (Torn at (length bytes.now)) (standing_of self.old.end self.old.faults) (standing_of self.new.end self.new.faults) }
         ensures cause { result ≡ Did.Failed → Faulted (standing_of self.old.end self.old.faults) (standing_of self.new.end self.new.faults) }
         ensures empty { StaysEmpty self.old self.new result }
     {
@@ -204,7 +204,7 @@ impl Disk for FileDisk {
     fn cut(&mut self, len: u64) -> Did
         requires { len ≤ length (untold self.old.end) }
         ensures bytes { Cuts result len (untold self.old.end) (untold self.new.end) }
-        ensures steps { Steps (Shortened len) (standing_of self.old.end self.old.faults) (standing_of self.new.end self.new.faults) }
+        ensures changes { Changes (Shortened len) (standing_of self.old.end self.old.faults) (standing_of self.new.end self.new.faults) }
         ensures cause { result ≡ Did.Failed → Faulted (standing_of self.old.end self.old.faults) (standing_of self.new.end self.new.faults) }
         ensures empty { StaysEmpty self.old self.new result }
     {

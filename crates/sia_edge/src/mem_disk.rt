@@ -1,7 +1,7 @@
 //! A disk in memory, which tells all images that a crash may leave.
 ghost use Rattle.std.specs.Prelude.{◌≡◌, ◌+◌, ◌<◌, ◌≤◌, ◌↔◌, ◌++◌, ◌∷◌, [], true, IsTrue, IfOk, OnOk, OnErr, length, take, drop, if◌then◌else◌};
 ghost use Rattle.sia_edge.specs.Edge.{Rose};
-ghost use Rattle.sia_edge.specs.Disk.{GivesWithin, Gives, Quiet, Faulted, Lengthens, Overwrites, Steps, Torn, Cuts, Shortened, Settles, overwritten};
+ghost use Rattle.sia_edge.specs.Disk.{GivesWithin, Gives, Quiet, Faulted, Lengthens, Overwrites, Changes, Torn, Cuts, Shortened, Settles, overwritten};
 ghost use Rattle.sia_edge.specs.Memory.{fresh_plan, fails_next, after_call, given_of};
 ghost use Rattle.sia_edge.specs.MemDisk.{standing_of, plan_after, OverwritesOrKeeps, CutsOrKeeps, Keeps, KeepsSync};
 
@@ -190,7 +190,7 @@ impl Disk for MemDisk {
         requires { at ≤ length self.old.bytes }
         ensures end { Lengthens result (at + length bytes.now) (length self.old.bytes) (length self.new.bytes) }
         ensures bytes { Overwrites result at bytes.now self.old.bytes self.new.bytes }
-        ensures steps { Steps (Torn at (length bytes.now)) (standing_of self.old) (standing_of self.new) }
+        ensures changes { Changes (Torn at (length bytes.now)) (standing_of self.old) (standing_of self.new) }
         ensures cause { result ≡ Did.Failed → Faulted (standing_of self.old) (standing_of self.new) }
         ensures whole { OverwritesOrKeeps result at bytes.now self.old.bytes self.new.bytes }
         ensures fails { IsTrue (fails_next self.old.plan) → result ≡ Did.Failed }
@@ -208,7 +208,7 @@ impl Disk for MemDisk {
     fn cut(&mut self, len: u64) -> Did
         requires { len ≤ length self.old.bytes }
         ensures bytes { Cuts result len self.old.bytes self.new.bytes }
-        ensures steps { Steps (Shortened len) (standing_of self.old) (standing_of self.new) }
+        ensures changes { Changes (Shortened len) (standing_of self.old) (standing_of self.new) }
         ensures cause { result ≡ Did.Failed → Faulted (standing_of self.old) (standing_of self.new) }
         ensures whole { CutsOrKeeps result len self.old.bytes self.new.bytes }
         ensures fails { IsTrue (fails_next self.old.plan) → result ≡ Did.Failed }
