@@ -1,7 +1,7 @@
 -- What an opening finds and repairs.
 use Rattle.std.specs.Prelude.{◌≡◌, ◌≢◌, ◌⊎◌, ℕ, ◌+◌, ◌≤◌, Bool, IsTrue, List, [], ◌∷◌, ◌++◌, length, take, drop, Option, None, Some}
 use Rattle.sia_encoding.specs.Spelling.{spelled_bytes}
-use Rattle.sia_edge.specs.Edge.{Rose}
+use Rattle.sia_edge.specs.Disk.{Standing, Faulted}
 use Rattle.sia_journal.specs.declared.fault.JournalFault.{JournalFault}
 use Rattle.sia_journal.specs.declared.fault.JournalFault.TheVariants as fault
 use Rattle.sia_journal.specs.declared.window.Window.{Window}
@@ -48,13 +48,15 @@ pub record IsFound (header file : List ℕ) (last : Last) : Type 0 where
   pub ends : IsLast file last
 
 -- why a walk along the gates answers a fault
-abbrev pub WalkCause : Bool → List ℕ → Window → ℕ → ℕ → JournalFault → Type 0
-WalkCause tells file window before now fault.Memory = Unit {0}
-WalkCause tells file window before now fault.Disk = Rose before now
-WalkCause tells file window before now (fault.Damaged place) = IsTrue tells → Shows file window → BreaksAt file place
-WalkCause tells file window before now (fault.Full need limit) = ⊥
+abbrev pub WalkCause : Bool → Window → Standing → Standing → JournalFault → Type 0
+WalkCause tells window old new fault.Memory = Unit {0}
+WalkCause tells window old new fault.Disk = Faulted old new
+WalkCause tells window old new (fault.Damaged place) = IsTrue tells → Shows old.seen window → BreaksAt old.seen place
+WalkCause tells window old new (fault.Full need limit) = ⊥
 
--- what may be left of a file while its end behind `front` is repaired, where a gate and other bytes stand
+-- What may be left of a file while its end behind `front` is repaired, where a gate and other bytes stand: the gate torn, or
+-- the gate closed and any bytes behind it, no more than there were.
 abbrev pub IsRepaired : List ℕ → ℕ → List ℕ → List ℕ → Type 0
 IsRepaired front gate behind file =
-    ((byte : ℕ) × (gate ≢ 0) × (file ≡ front ++ byte ∷ behind)) ⊎ ((count : ℕ) × (file ≡ front ++ 0 ∷ take count behind))
+    ((byte : ℕ) × (gate ≢ 0) × (file ≡ front ++ byte ∷ behind))
+    ⊎ ((rest : List ℕ) × (length rest ≤ length behind) × (file ≡ front ++ 0 ∷ rest))

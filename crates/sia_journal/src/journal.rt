@@ -1,8 +1,8 @@
 //! A journal that is open: records are read and appended.
 ghost use Rattle.std.specs.Prelude.{◌≡◌, ◌≢◌, ◌+◌, ◌^◌, ◌<◌, ◌≤◌, ◌++◌, ◌∷◌, [], ℕ, List, IsTrue, false, IfOk, OnOk, OnErr, IfErr, Err, drop, length};
-ghost use Rattle.sia_edge.specs.Disk.{Passes, Quiet};
-ghost use Rattle.sia_journal.specs.Listed.{HEADER, IsDamaged, place_after, listed};
-ghost use Rattle.sia_journal.specs.Journal.{Holds, LeavesMidAppend, IsReady, need_for, AppendCause, Opens, OpenCause, disk_of, NextIs, ReadCause};
+ghost use Rattle.sia_edge.specs.Disk.{TimePasses, Leaves, EachImage, Quiet};
+ghost use Rattle.sia_journal.specs.Listed.{IsDamaged, place_after};
+ghost use Rattle.sia_journal.specs.Journal.{Holds, HoldsListed, IsFew, MidAppend, IsReady, need_for, AppendCause, OpenCause, disk_of, NextIs, ReadCause};
 
 use crate::fault::{JournalFault, done};
 use crate::opening::prepare;
@@ -39,17 +39,17 @@ impl<D: Disk> Journal<D> {
     ) -> Result<Journal<D>, (JournalFault, D)>
         requires low { 17 ≤ limit }
         requires high { limit ≤ 2 ^ 36 }
-        ensures ready { IfOk result (λ journal. IsReady D.seen journal) }
+        ensures ready { IfOk result (λ journal. IsReady D.standing journal) }
         ensures limit { IfOk result (λ journal. journal.limit ≡ limit) }
-        ensures listed { IsTrue D.tells → IfOk result (λ journal. Opens D.seen D.moment D.since header.now limit disk journal.disk) }
+        ensures listed { IsTrue D.tells → IfOk result (λ journal. HoldsListed header.now limit (D.standing disk) (D.standing journal.disk)) }
         ensures crash { IsTrue D.tells → (records : List (List ℕ)) (payload : List ℕ)
-            → LeavesMidAppend header.now limit records payload (D.since disk (D.moment disk))
-            → LeavesMidAppend header.now limit records payload (D.since (disk_of result) (D.moment disk)) }
-        ensures time { Passes (D.moment disk) (D.moment (disk_of result)) (D.since disk) (D.since (disk_of result)) }
-        ensures refused { IfErr result (λ failed. failed.0 ≢ JournalFault.Disk → Quiet D.seen D.moment D.since disk failed.1) }
-        ensures damaged { IsTrue D.tells → IsDamaged header.now limit (D.seen disk) → Quiet D.seen D.moment D.since disk (disk_of result) }
-        ensures cause { IfErr result (λ failed. OpenCause D.tells (D.faults disk) (D.faults failed.1) (listed header.now limit (D.seen disk)) failed.0) }
-        ensures later { D.faults disk ≤ D.faults (disk_of result) }
+            → EachImage (MidAppend header.now limit records payload) (D.standing disk)
+            → Leaves (MidAppend header.now limit records payload) (D.standing disk) (D.standing (disk_of result)) }
+        ensures few { IsTrue D.tells → EachImage IsFew (D.standing disk) → Leaves IsFew (D.standing disk) (D.standing (disk_of result)) }
+        ensures time { TimePasses (D.standing disk) (D.standing (disk_of result)) }
+        ensures refused { IfErr result (λ failed. failed.0 ≢ JournalFault.Disk → Quiet (D.standing disk) (D.standing failed.1)) }
+        ensures damaged { IsTrue D.tells → IsDamaged header.now limit (D.standing disk).seen → Quiet (D.standing disk) (D.standing (disk_of result)) }
+        ensures cause { IfErr result (λ failed. OpenCause D.tells header.now limit (D.standing disk) (D.standing failed.1) failed.0) }
     {
         match prepare(alloc, &mut disk, header, limit) {
             Ok(gate) => Ok(Journal { disk, gate, limit }),
@@ -66,20 +66,19 @@ impl<D: Disk> Journal<D> {
         place: &mut u64,
         out: &mut Blob,
     ) -> Result<bool, JournalFault>
-        requires ready { IsReady D.seen self.old }
+        requires ready { IsReady D.standing self.old }
         requires place { place.old ≤ self.old.gate }
-        ensures ready { IsReady D.seen self.new }
+        ensures ready { IsReady D.standing self.new }
         ensures limit { self.new.limit ≡ self.old.limit }
         ensures place { place.new ≤ self.new.gate }
-        ensures next { IsTrue D.tells → (header : List ℕ) (read left : List (List ℕ)) → length header ≡ HEADER
-            → Holds D.seen D.moment D.since header (read ++ left) self.old.disk → place.old ≡ place_after read
+        ensures next { IsTrue D.tells → (header : List ℕ) (read left : List (List ℕ))
+            → Holds header (read ++ left) (D.standing self.old.disk) → place.old ≡ place_after read
             → IfOk result (NextIs read left place.new out.new) }
         ensures ends { IfOk result (λ more. more ≡ false → (place.new ≡ place.old) × (out.new ≡ out.old)) }
         ensures moves { IfOk result (λ more. IsTrue more → place.new ≡ place.old + 9 + length out.new) }
         ensures stays { OnErr result ((place.new ≡ place.old) × (out.new ≡ out.old)) }
-        ensures quiet { Quiet D.seen D.moment D.since self.old.disk self.new.disk }
-        ensures cause { IfErr result (ReadCause (D.faults self.old.disk) (D.faults self.new.disk)) }
-        ensures later { D.faults self.old.disk ≤ D.faults self.new.disk }
+        ensures quiet { Quiet (D.standing self.old.disk) (D.standing self.new.disk) }
+        ensures cause { IfErr result (ReadCause (D.standing self.old.disk) (D.standing self.new.disk)) }
     {
         let left = self.gate - *place;
         if left < 9 {
@@ -101,20 +100,19 @@ impl<D: Disk> Journal<D> {
     /// Appends a record. It takes no memory. `Full` comes exactly where the file would pass the limit, and changes nothing.
     /// After `Disk` the file lists the records before or those and the new one, and the journal has to be opened again.
     pub fn append(&mut self, framed: &RecordBuf) -> Result<(), JournalFault>
-        requires { IsReady D.seen self.old }
-        ensures ready { OnOk result (IsReady D.seen self.new) }
+        requires { IsReady D.standing self.old }
+        ensures ready { OnOk result (IsReady D.standing self.new) }
         ensures limit { self.new.limit ≡ self.old.limit }
-        ensures kept { IsTrue D.tells → OnOk result ((header : List ℕ) (records : List (List ℕ)) → length header ≡ HEADER
-            → Holds D.seen D.moment D.since header records self.old.disk
-            → Holds D.seen D.moment D.since header (records ++ framed.now ∷ []) self.new.disk) }
-        ensures images { IsTrue D.tells → (header : List ℕ) (records : List (List ℕ)) → length header ≡ HEADER
-            → Holds D.seen D.moment D.since header records self.old.disk
-            → LeavesMidAppend header self.old.limit records framed.now (D.since self.new.disk (D.moment self.old.disk)) }
-        ensures time { Passes (D.moment self.old.disk) (D.moment self.new.disk) (D.since self.old.disk) (D.since self.new.disk) }
-        ensures full { self.old.limit < need_for D.seen self.old framed.now
-            → (result ≡ Err (JournalFault.Full (need_for D.seen self.old framed.now) self.old.limit)) × (self.new ≡ self.old) }
-        ensures cause { IfErr result (AppendCause (D.faults self.old.disk) (D.faults self.new.disk) (need_for D.seen self.old framed.now) self.old.limit) }
-        ensures later { D.faults self.old.disk ≤ D.faults self.new.disk }
+        ensures end { OnOk result (length (D.standing self.new.disk).seen ≡ need_for D.standing self.old framed.now) }
+        ensures kept { IsTrue D.tells → OnOk result ((header : List ℕ) (records : List (List ℕ))
+            → Holds header records (D.standing self.old.disk) → Holds header (records ++ framed.now ∷ []) (D.standing self.new.disk)) }
+        ensures images { IsTrue D.tells → (header : List ℕ) (records : List (List ℕ))
+            → Holds header records (D.standing self.old.disk)
+            → Leaves (MidAppend header self.old.limit records framed.now) (D.standing self.old.disk) (D.standing self.new.disk) }
+        ensures time { TimePasses (D.standing self.old.disk) (D.standing self.new.disk) }
+        ensures full { self.old.limit < need_for D.standing self.old framed.now
+            → (result ≡ Err (JournalFault.Full (need_for D.standing self.old framed.now) self.old.limit)) × (self.new ≡ self.old) }
+        ensures cause { IfErr result (AppendCause (D.standing self.old.disk) (D.standing self.new.disk) (need_for D.standing self.old framed.now) self.old.limit) }
     {
         let need = self.gate + 1 + framed.size();
         if need > self.limit {
@@ -133,7 +131,7 @@ impl<D: Disk> Journal<D> {
 
     /// How long the file is, in bytes.
     pub fn length(&self) -> u64
-        ensures { result ≡ length (D.seen self.now.disk) }
+        ensures { result ≡ length (D.standing self.now.disk).seen }
     {
         self.disk.length()
     }
