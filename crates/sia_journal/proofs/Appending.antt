@@ -1,29 +1,13 @@
 -- What each step of an append leaves.
-use Rattle.std.proofs.Common.{◌≡◌, inl, inr, ℕ, ◌+◌, ◌≤◌, max, List, [], ◌∷◌, ◌++◌, length, drop, get_or, refl, sym, ap, subst, ◌∙◌, append_assoc, length-append, arith}
+use Rattle.std.proofs.Common.{◌≡◌, inl, inr, ℕ, ◌+◌, ◌≤◌, List, [], ◌∷◌, ◌++◌, length, drop, get_or, refl, sym, ap, subst, ◌∙◌, append_assoc, length-append, arith}
 use Rattle.sia_encoding.specs.Spelling.{spelled_bytes}
-use Rattle.sia_edge.specs.declared.disk.Did.{Did}
-use Rattle.sia_edge.specs.declared.disk.Did.TheVariants as did
-use Rattle.sia_edge.specs.Disk.{Standing, Torn, overwritten, Overwrites, Lengthens, Settles, IsSettled, Only, Changes, Leaves, images_of}
+use Rattle.sia_edge.specs.Disk.{Standing, Torn, overwritten, IsSettled, Only, Changes, Leaves, images_of}
 use Rattle.sia_edge.proofs.Runs.{goes_on, weaken, step_of_only}
 use Rattle.sia_journal.specs.Listed.{HEADER, frames, file_of, at_rest, place_after}
 use Rattle.sia_journal.specs.Journal.{Holds, IsStaged, MidAppend}
 use Rattle.sia_journal.proofs.Frames.{body_size}
 use Rattle.sia_journal.proofs.Listing.{length-file, file_push}
 use Rattle.sia_journal.proofs.Tearing.{torn_at_end, written_at_end, torn_within, written_within}
-
--- a write that was done, and then a sync
-pub written_kept : (place : ℕ) (bytes old first : List ℕ) (last : Standing) {write sync : Did} → write ≡ did.Done → sync ≡ did.Done
-    → Overwrites write place bytes old first → last.seen ≡ first → Settles sync last → (last.seen ≡ overwritten old place bytes) × IsSettled last
-written_kept place bytes old first last written synced wrote same settles =
-    let P : Did → Type 0 = λ d. Overwrites d place bytes old first in
-    let Q : Did → Type 0 = λ d. Settles d last in
-    (same ∙ subst P written wrote, subst Q synced settles)
-
--- the length after a write that was done
-pub lengthened : (write : Did) (end old new : ℕ) → write ≡ did.Done → Lengthens write end old new → new ≡ max old end
-lengthened write end old new written lengthens =
-    let P : Did → Type 0 = λ d. Lengthens d end old new in
-    subst P written lengthens
 
 pub file_of_more : (header : List ℕ) (records : List (List ℕ)) (some more : List ℕ) → file_of header records some ++ more ≡ file_of header records (some ++ more)
 file_of_more header records some more =
@@ -103,13 +87,13 @@ module _ (header : List ℕ) (records : List (List ℕ)) (payload : List ℕ) (l
         torn_body room file (subst R is (subst Q place torn)))
 
     -- the first write is on the disk
-    pub body_kept : (next : Standing) {bytes : List ℕ} → bytes ≡ body → (next.seen ≡ overwritten begin.seen (gate + 1) bytes) × IsSettled next
+    pub body_kept : (next : Standing) {bytes : List ℕ} → bytes ≡ body → next.seen ≡ overwritten begin.seen (gate + 1) bytes → IsSettled next
         → (next.seen ≡ staged 0) × Only (staged 0) (images_of next)
-    body_kept next {bytes} is kept =
+    body_kept next {bytes} is kept only =
         let now : next.seen ≡ staged 0 =
-        kept.0 ∙ ap (λ f. overwritten f (gate + 1) bytes) holds.is ∙ ap (λ k. overwritten (at_rest header records) (k + 1) bytes) place
+        kept ∙ ap (λ f. overwritten f (gate + 1) bytes) holds.is ∙ ap (λ k. overwritten (at_rest header records) (k + 1) bytes) place
         ∙ ap (overwritten (at_rest header records) (place_after records + 1)) is ∙ body_written in
-        (now, λ file left. kept.1 file left ∙ now)
+        (now, λ file left. only file left ∙ now)
 
     -- after the second write
     pub wrote_gate : {mid next : Standing} → Leaves (MidAppend header limit records payload) begin mid → Only (staged 0) (images_of mid)
@@ -119,9 +103,9 @@ module _ (header : List ℕ) (records : List (List ℕ)) (payload : List ℕ) (l
         inr (inr (torn_gate 0 file (omega (arith, room, length-staged 0)) (subst Q place torn))))
 
     -- the second write is on the disk
-    pub gate_kept : (mid last : Standing) → mid.seen ≡ staged 0 → (last.seen ≡ overwritten mid.seen gate (1 ∷ [])) × IsSettled last
+    pub gate_kept : (mid last : Standing) → mid.seen ≡ staged 0 → last.seen ≡ overwritten mid.seen gate (1 ∷ []) → IsSettled last
         → Holds header (records ++ payload ∷ []) last
-    gate_kept mid last was kept =
+    gate_kept mid last was kept only =
         let now : last.seen ≡ at_rest header (records ++ payload ∷ []) =
-        kept.0 ∙ ap (λ f. overwritten f gate (1 ∷ [])) was ∙ ap (λ k. overwritten (staged 0) k (1 ∷ [])) place ∙ gate_written in
-        record { sized = holds.sized; is = now; only = λ file left. kept.1 file left ∙ now }
+        kept ∙ ap (λ f. overwritten f gate (1 ∷ [])) was ∙ ap (λ k. overwritten (staged 0) k (1 ∷ [])) place ∙ gate_written in
+        record { sized = holds.sized; is = now; only = λ file left. only file left ∙ now }

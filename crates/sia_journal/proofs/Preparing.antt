@@ -1,13 +1,13 @@
 -- An opening, call by call.
-use Rattle.std.proofs.Common.{◌≡◌, inl, ℕ, ◌^◌, ◌<◌, ◌≤◌, List, [], ◌∷◌, ◌++◌, length, Result, Ok, IfOk, sym, ap, subst, ◌∙◌, arith}
-use Rattle.sia_edge.specs.Disk.{Standing, IsSettled, EachImage, Leaves, Settles, images_of}
+use Rattle.std.proofs.Common.{◌≡◌, inl, inr, ℕ, ◌^◌, ◌<◌, ◌≤◌, List, [], ◌∷◌, ◌++◌, length, Result, Ok, IfOk, sym, ap, subst, ◌∙◌, arith}
+use Rattle.sia_edge.specs.Disk.{Standing, IsSettled, EachImage, Leaves, Quiet, Settles, images_of}
 use Rattle.sia_edge.specs.declared.disk.Did.{Did}
 use Rattle.sia_edge.specs.declared.disk.Did.TheVariants as did
-use Rattle.sia_edge.proofs.Runs.{goes_on}
+use Rattle.sia_edge.proofs.Runs.{goes_on, weaken}
 use Rattle.sia_journal.specs.declared.scan.Last.{Last}
-use Rattle.sia_journal.specs.Listed.{HEADER, FRESH, IsDamaged, frames, at_rest, listed}
-use Rattle.sia_journal.specs.Journal.{Holds, HoldsListed, IsFew, MidAppend}
-use Rattle.sia_journal.specs.Opening.{IsRepaired, IsFound}
+use Rattle.sia_journal.specs.Listed.{HEADER, FRESH, IsFew, IsDamaged, frames, at_rest, listed}
+use Rattle.sia_journal.specs.Journal.{Holds, HoldsListed, MidAppend}
+use Rattle.sia_journal.specs.Opening.{IsRepaired, IsFound, IsMended, IsReopened}
 use Rattle.sia_journal.proofs.Listing.{listed_few}
 use Rattle.sia_journal.proofs.Appending.{in_two, length-front}
 use Rattle.sia_journal.proofs.Repairing.{few_records, file_found, found_listed, repair_mid}
@@ -25,24 +25,39 @@ settled disk is given =
     subst P is given
 
 module _ (header : List ℕ) (size : length header ≡ HEADER) (limit : ℕ) (bounded : limit < 2 ^ 64) where
-  module _ (records : List (List ℕ)) (payload : List ℕ) where
-    abbrev Mid : List ℕ → Type 0
-    Mid = MidAppend header limit records payload
+  -- what an opening leaves of a disk whose images all have P
+  reopened : {P : List ℕ → Type 0} {old new : Standing} → EachImage P old → images_of old old.seen
+      → (P old.seen → IsFew old.seen → (file : List ℕ) → IsFew file → P file)
+      → (P old.seen → (file : List ℕ) → IsMended header limit old.seen file → P file)
+      → Leaves (IsReopened header limit old) old new → Leaves P old new
+  reopened {P} {old} {new} each as_read fresh mended leaves = weaken leaves (λ file left. elim left [
+    | inl was ↦ each file was
+    | inr made ↦ elim made [
+      | inl few ↦ fresh (each old.seen as_read) few.0 file few.1
+      | inr end ↦ mended (each old.seen as_read) file end
+    ]
+  ])
 
-    pub mid_seen : (begin first : Standing) → EachImage Mid begin → images_of begin begin.seen → first.seen ≡ begin.seen → Mid first.seen
-    mid_seen begin first each as_read same = subst Mid (sym same) (each begin.seen as_read)
+  -- few bytes stay few
+  pub reopened_few : {old new : Standing} → EachImage IsFew old → images_of old old.seen → Leaves (IsReopened header limit old) old new → Leaves IsFew old new
+  reopened_few {old} {new} each as_read = reopened {P = IsFew} each as_read (λ was few file made. made) (λ was file end. absurd (omega (arith, was, end.long)))
 
-    pub made_fresh : {begin first next : Standing} → Leaves Mid begin first → Mid first.seen → length first.seen ≤ FRESH → IsSettled first
-        → (EachImage IsFew first → Leaves IsFew first next) → Leaves Mid begin next
-    made_fresh {begin} {first} run mid few only leaves = goes_on run (leaves (λ f l. omega (arith, few, ap length (only f l)))) (λ file left.
-        inl (record { none = few_records header limit records payload first.seen size few mid; few = left }))
+  -- what an append left midway stays so
+  pub reopened_mid : (records : List (List ℕ)) (payload : List ℕ) {old new : Standing} → EachImage (MidAppend header limit records payload) old → images_of old old.seen
+      → Leaves (IsReopened header limit old) old new → Leaves (MidAppend header limit records payload) old new
+  reopened_mid records payload {old} {new} each as_read = reopened {P = MidAppend header limit records payload} each as_read
+      (λ was few file made. inl (record { none = few_records header limit records payload old.seen size few was; few = made }))
+      (λ was file end. repair_mid header size limit bounded records end.found.ends.records payload end.last.gate end.found.ends.behind old.seen end.found.ends.shut
+      (file_found header size limit bounded old.seen end.last end.found) end.within end.long was file end.repaired)
 
-    pub repaired : {begin first next : Standing} {file : List ℕ} {last : Last} (found : IsFound header file last) → Leaves Mid begin first → Mid file
-        → FRESH < length file → length file ≤ limit → Leaves (IsRepaired (header ++ frames found.ends.records) last.gate found.ends.behind) first next
-        → Leaves Mid begin next
-    repaired {begin} {first} {next} {file} {last} found run mid long within leaves = goes_on run leaves (λ c left.
-        repair_mid header size limit bounded records found.ends.records payload last.gate found.ends.behind file found.ends.shut
-        (file_found header size limit bounded file last found) within long mid c left)
+  -- a repair of what was found
+  pub reopened_end : {old second next : Standing} (first : Standing) {last : Last} (found : IsFound header first.seen last) → first.seen ≡ old.seen → Quiet old second
+      → FRESH < length first.seen → length first.seen ≤ limit → Leaves (IsRepaired (header ++ frames found.ends.records) last.gate found.ends.behind) second next
+      → Leaves (IsReopened header limit old) old next
+  reopened_end {old} {second} {next} first {last} found same quiet long within leaves =
+      goes_on (weaken quiet.leaves (λ file was. inl was)) leaves (λ file end.
+      let P : List ℕ → Type 0 = λ seen. IsMended header limit seen file in
+      inr (inr (subst P same (record { last = last; found = found; long = long; within = within; repaired = end }))))
 
   -- where the front of a file ends, and what stands there
   pub front_found : (file : List ℕ) (last : Last) (found : IsFound header file last) → length (header ++ frames found.ends.records) ≡ last.place

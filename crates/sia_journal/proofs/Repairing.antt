@@ -7,8 +7,8 @@ use Rattle.sia_encoding.specs.Spelling.{spelled_bytes}
 use Rattle.sia_edge.specs.Disk.{Standing, Torn, Shortened, overwritten, IsSettled, EachImage, Changes, Leaves}
 use Rattle.sia_edge.proofs.Runs.{weaken, step_of_only}
 use Rattle.sia_journal.specs.declared.scan.Last.{Last}
-use Rattle.sia_journal.specs.Listed.{HEADER, FRESH, frames, file_of, listed}
-use Rattle.sia_journal.specs.Journal.{IsFew, MidAppend}
+use Rattle.sia_journal.specs.Listed.{HEADER, FRESH, IsFew, frames, file_of, listed}
+use Rattle.sia_journal.specs.Journal.{MidAppend}
 use Rattle.sia_journal.specs.Opening.{IsRepaired, IsFound, BreaksAt}
 use Rattle.sia_journal.proofs.Frames.{count_within}
 use Rattle.sia_journal.proofs.Listing.{length-file, listed_closed, listed_broken, file_push}

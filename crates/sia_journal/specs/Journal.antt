@@ -5,7 +5,7 @@ use Rattle.sia_edge.specs.Disk.{Standing, Faulted, Only, images_of}
 use Rattle.sia_journal.specs.declared.fault.JournalFault.{JournalFault}
 use Rattle.sia_journal.specs.declared.fault.JournalFault.TheVariants as fault
 use Rattle.sia_journal.specs.declared.journal.Journal.{Journal}
-use Rattle.sia_journal.specs.Listed.{HEADER, FRESH, file_of, at_rest, place_after, listed}
+use Rattle.sia_journal.specs.Listed.{HEADER, IsFew, file_of, at_rest, place_after, listed}
 
 -- The disk of a journal that isn't being written: it reads as a whole file of these records behind the header, and a crash
 -- leaves that file.
@@ -23,7 +23,7 @@ pub record HoldsListed (header : List ℕ) (limit : ℕ) (old new : Standing) : 
 -- the file of a journal to which nothing was ever appended
 pub record IsFresh (records : List (List ℕ)) (file : List ℕ) : Type 0 where
   pub none : records ≡ []
-  pub few : length file ≤ FRESH
+  pub few : IsFew file
 
 -- the last gate is closed, and something may stand behind it
 pub record IsClosed (header : List ℕ) (limit : ℕ) (records : List (List ℕ)) (file : List ℕ) : Type 0 where
@@ -42,10 +42,6 @@ pub record IsStaged (header : List ℕ) (limit : ℕ) (records : List (List ℕ)
 abbrev pub MidAppend : List ℕ → ℕ → List (List ℕ) → List ℕ → List ℕ → Type 0
 MidAppend header limit records payload file =
     IsFresh records file ⊎ (IsClosed header limit records file ⊎ IsStaged header limit records payload file)
-
--- a file of so few bytes that it lists nothing
-abbrev pub IsFew : List ℕ → Type 0
-IsFew file = length file ≤ FRESH
 
 -- a file lists these records, or these and one payload more
 abbrev pub ListsEither : List ℕ → ℕ → List (List ℕ) → List ℕ → List ℕ → Type 0
@@ -93,8 +89,12 @@ abbrev pub disk_of : {D : Type 0} → Result (Journal D) (JournalFault × D) →
 disk_of (Ok journal) = journal.disk
 disk_of (Err failed) = failed.1
 
--- What reading at the place behind the records that were read answers: the first of those left, with the place behind it,
--- or false where none is left.
-abbrev pub NextIs : List (List ℕ) → List (List ℕ) → ℕ → List ℕ → Bool → Type 0
-NextIs read [] place out answer = answer ≡ false
-NextIs read (payload ∷ others) place out answer = (answer ≡ true) × (out ≡ payload) × (place ≡ place_after (read ++ payload ∷ []))
+-- What reading at the place behind the records that were read answers, onto what `before` was: the first of those left behind
+-- it, with the place behind the record, or false where none is left.
+abbrev pub NextIs : List (List ℕ) → List (List ℕ) → List ℕ → ℕ → List ℕ → Bool → Type 0
+NextIs read [] before place out answer = answer ≡ false
+NextIs read (payload ∷ others) before place out answer = (answer ≡ true) × (out ≡ before ++ payload) × (place ≡ place_after (read ++ payload ∷ []))
+
+-- the place moves on by a record, and the elements grow by its payload
+abbrev pub MovesOn : ℕ → ℕ → ℕ → ℕ → Type 0
+MovesOn place next held more = (size : ℕ) × (next ≡ place + 9 + size) × (more ≡ held + size)

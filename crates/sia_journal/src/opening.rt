@@ -1,12 +1,13 @@
 //! Opening a journal: a fresh file is made, and the end of a longer one is repaired.
 ghost use Rattle.std.specs.Prelude.{◌≡◌, ◌≢◌, ℕ, ◌+◌, ◌^◌, ◌<◌, ◌≤◌, ◌++◌, ◌∷◌, [], List, IsTrue, IfOk, IfErr, OnOk, Ok, length};
 ghost use Rattle.sia_edge.specs.Disk.{TimePasses, Leaves, EachImage, Quiet, IsSettled};
-ghost use Rattle.sia_journal.specs.Listed.{IsDamaged, at_rest};
-ghost use Rattle.sia_journal.specs.Journal.{Holds, HoldsListed, IsFew, MidAppend, DiskCause, OpenCause};
-ghost use Rattle.sia_journal.specs.Opening.{IsRepaired};
+ghost use Rattle.sia_journal.specs.Listed.{IsFew, IsDamaged, at_rest};
+ghost use Rattle.sia_journal.specs.Journal.{Holds, HoldsListed, MidAppend, DiskCause, OpenCause};
+ghost use Rattle.sia_journal.specs.Opening.{IsRepaired, IsReopened};
 
 use crate::durable::{cut_to, store};
 use crate::fault::{JournalFault, done};
+use crate::journal::FIRST_PLACE;
 use crate::scan::{Last, find_last};
 use sia_edge::Disk;
 use std::alloc::Global;
@@ -66,10 +67,7 @@ pub(crate) fn prepare<D: Disk>(
     requires high { limit ≤ 2 ^ 36 }
     ensures gate { IfOk result (λ gate. (16 ≤ gate) × (gate + 1 ≡ length (D.standing disk.new).seen) × (gate < limit)) }
     ensures listed { IsTrue D.tells → OnOk result (HoldsListed header.now limit (D.standing disk.old) (D.standing disk.new)) }
-    ensures crash { IsTrue D.tells → (records : List (List ℕ)) (payload : List ℕ)
-        → EachImage (MidAppend header.now limit records payload) (D.standing disk.old)
-        → Leaves (MidAppend header.now limit records payload) (D.standing disk.old) (D.standing disk.new) }
-    ensures few { IsTrue D.tells → EachImage IsFew (D.standing disk.old) → Leaves IsFew (D.standing disk.old) (D.standing disk.new) }
+    ensures images { IsTrue D.tells → Leaves (IsReopened header.now limit (D.standing disk.old)) (D.standing disk.old) (D.standing disk.new) }
     ensures time { TimePasses (D.standing disk.old) (D.standing disk.new) }
     ensures refused { IfErr result (λ fault. fault ≢ JournalFault.Disk → Quiet (D.standing disk.old) (D.standing disk.new)) }
     ensures damaged { IsTrue D.tells → IsDamaged header.now limit (D.standing disk.old).seen → Quiet (D.standing disk.old) (D.standing disk.new) }
@@ -78,7 +76,7 @@ pub(crate) fn prepare<D: Disk>(
     done(disk.sync())?;
     if disk.length() <= FRESH_LEN as u64 {
         make_fresh(disk, header)?;
-        return Ok(16);
+        return Ok(FIRST_PLACE);
     }
     let last = find_last(alloc, disk, header, limit)?;
     repair(disk, last)?;

@@ -6,6 +6,7 @@ ghost use Rattle.sia_journal.specs.Journal.{ReadCause, OpenCause};
 ghost use Rattle.sia_journal.specs.Opening.{Shows, FrameEnds, IsLast, IsFound, WalkCause};
 
 use crate::fault::JournalFault;
+use crate::journal::FIRST_PLACE;
 use crate::window::Window;
 use sia_edge::Disk;
 use std::alloc::Global;
@@ -67,7 +68,7 @@ fn last_gate<D: Disk>(
     ensures quiet { Quiet (D.standing disk.old) (D.standing disk.new) }
     ensures cause { IfErr result (WalkCause D.tells window.old (D.standing disk.old) (D.standing disk.new)) }
 {
-    let mut place: u64 = 16;
+    let mut place = FIRST_PLACE;
     while place < end {
         let bytes = window.array::<1, D>(alloc, disk, place)?;
         let gate = bytes[0];
