@@ -2,8 +2,8 @@
 -- disk allows after them: so what holds of each image of this disk holds of each image that a crash may leave.
 use Rattle.std.specs.Prelude.{◌≡◌, ◌⊎◌, ◌++◌, ℕ, ◌≤◌, List, [], ◌∷◌, length, take}
 use Rattle.std.proofs.Common.{refl, inl, inr, arith}
-use Rattle.sia_edge.specs.declared.mem_disk.Event.{Event}
-use Rattle.sia_edge.specs.declared.mem_disk.Event.TheVariants as event
+use Rattle.sia_edge.specs.Event.{Event}
+use Rattle.sia_edge.specs.Event as event
 use Rattle.sia_edge.specs.declared.fault_plan.FaultPlan.{FaultPlan}
 use Rattle.sia_edge.specs.declared.disk.Did.{Did}
 use Rattle.sia_edge.specs.declared.disk.Did.TheVariants as did
@@ -64,11 +64,6 @@ OverwritesOrKeeps did.Failed at bytes old new = new ≡ old
 abbrev pub CutsOrKeeps : Did → ℕ → List ℕ → List ℕ → Type 0
 CutsOrKeeps did.Done n old new = new ≡ take n old
 CutsOrKeeps did.Failed n old new = new ≡ old
-
--- a write or a cut that was done was kept as an event; one that failed was kept, or memory was short
-abbrev pub Keeps : Did → Event → List Event → List Event → Type 0
-Keeps did.Done e old new = new ≡ old ++ e ∷ []
-Keeps did.Failed e old new = (new ≡ old ++ e ∷ []) ⊎ (new ≡ old)
 
 -- a sync that was done was kept as an event, and one that failed wasn't
 abbrev pub KeepsSync : Did → List ℕ → List Event → List Event → Type 0

@@ -20,7 +20,9 @@
 mod all;
 mod disk;
 mod fault_plan;
+mod faults;
 mod file_disk;
+mod history;
 mod mem_disk;
 mod memory;
 mod read_disk;
@@ -31,13 +33,8 @@ pub use all::{Ending, WriteFailed, read_to_bound, write_all};
 pub use disk::{Did, Disk};
 pub use fault_plan::FaultPlan;
 pub use file_disk::{Disks, FileDisk};
-pub use mem_disk::{Event, MemDisk};
+pub use mem_disk::MemDisk;
 pub use memory::{MemSink, MemSource, SureSource};
 pub use read_disk::{ReadFault, read_into, read_onto, read_whole};
 pub use system::{FileSink, FileSource, StdSink};
 pub use traits::{Got, Put, Sink, Source};
-
-#[cfg(test)]
-mod disk_tests;
-#[cfg(test)]
-mod tests;

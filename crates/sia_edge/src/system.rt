@@ -2,6 +2,7 @@
 ghost use Rattle.std.specs.Prelude.{◌≡◌, ◌≤◌, None, Some, IsNone, length};
 ghost use Rattle.sia_edge.specs.Edge.{GotWithin, Reads, GotCause, PutWithin, Writes, PutCause};
 
+use crate::faults::Faults;
 use crate::{Got, Put, Sink, Source};
 use std::fs::{self, File};
 use std::io::{ErrorKind, Read, Stderr, Stdout, Write};
@@ -45,7 +46,7 @@ fn write_some<W: Write>(writer: &mut W, piece: &[u8]) -> Put
 #[derive(Drop)]
 pub struct FileSource {
     file: Option<File>,
-    faults: u64,
+    faults: Faults,
 }
 
 impl FileSource {
@@ -56,7 +57,7 @@ impl FileSource {
     {
         FileSource {
             file: Some(file),
-            faults: 0,
+            faults: Faults::none(),
         }
     }
 
@@ -67,7 +68,7 @@ impl FileSource {
     {
         FileSource {
             file: None,
-            faults: 0,
+            faults: Faults::none(),
         }
     }
 
@@ -101,7 +102,7 @@ impl Source for FileSource {
             None => Got::Failed,
         };
         if got == Got::Failed {
-            self.faults = self.faults.saturating_add(1);
+            self.faults.add();
         }
         got
     }
@@ -111,7 +112,7 @@ impl Source for FileSource {
 #[derive(Drop)]
 pub struct FileSink {
     file: Option<File>,
-    faults: u64,
+    faults: Faults,
 }
 
 impl FileSink {
@@ -122,7 +123,7 @@ impl FileSink {
     {
         FileSink {
             file: Some(file),
-            faults: 0,
+            faults: Faults::none(),
         }
     }
 
@@ -133,7 +134,7 @@ impl FileSink {
     {
         FileSink {
             file: None,
-            faults: 0,
+            faults: Faults::none(),
         }
     }
 
@@ -167,7 +168,7 @@ impl Sink for FileSink {
             None => Put::Failed,
         };
         if put == Put::Failed {
-            self.faults = self.faults.saturating_add(1);
+            self.faults.add();
         }
         put
     }
@@ -184,7 +185,7 @@ enum Stream {
 #[derive(Drop)]
 pub struct StdSink {
     stream: Stream,
-    faults: u64,
+    faults: Faults,
 }
 
 impl StdSink {
@@ -194,7 +195,7 @@ impl StdSink {
     {
         StdSink {
             stream: Stream::Output(stream),
-            faults: 0,
+            faults: Faults::none(),
         }
     }
 
@@ -204,7 +205,7 @@ impl StdSink {
     {
         StdSink {
             stream: Stream::Error(stream),
-            faults: 0,
+            faults: Faults::none(),
         }
     }
 }
@@ -220,7 +221,7 @@ impl Sink for StdSink {
             Stream::Error(stream) => write_some(stream, piece),
         };
         if put == Put::Failed {
-            self.faults = self.faults.saturating_add(1);
+            self.faults.add();
         }
         put
     }
