@@ -8,7 +8,7 @@ use Rattle.sia_edge.specs.declared.fault_plan.FaultPlan.{FaultPlan}
 use Rattle.sia_edge.specs.declared.disk.Did.{Did}
 use Rattle.sia_edge.specs.declared.disk.Did.TheVariants as did
 use Rattle.sia_edge.specs.Memory.{one_more}
-use Rattle.sia_edge.specs.Disk.{Torn, Shortened, overwritten}
+use Rattle.sia_edge.specs.Disk.{Standing, Torn, Shortened, overwritten}
 
 -- a disk in memory, as contracts see it
 pub record DiskState : Type 0 where
@@ -70,13 +70,17 @@ abbrev pub KeepsSync : Did → List ℕ → List Event → List Event → Type 0
 KeepsSync did.Done bytes old new = new ≡ old ++ event.Synced bytes ∷ []
 KeepsSync did.Failed bytes old new = new ≡ old
 
--- a disk as it reads is one of its images
-pub read_is_image : (disk : DiskState) → since_of disk (moment_of disk) disk.bytes
-read_is_image disk = inr (omega arith, refl)
-
 -- what there was since a moment there was since an earlier one
 pub since_earlier : (disk : DiskState) (t u : ℕ) (c : List ℕ) → t ≤ u → u ≤ moment_of disk → since_of disk u c → since_of disk t c
 since_earlier disk t u c before within left = elim left [
   | inl had ↦ inl (had.0, omega (arith, had.1), had.2, had.3)
   | inr now ↦ inr (omega arith, now.1)
 ]
+
+-- how a disk in memory stands
+abbrev pub standing_of : DiskState → Standing
+standing_of disk = record { seen = disk.bytes; moment = moment_of disk; since = since_of disk; faults = disk.plan.faults; earlier = since_earlier disk }
+
+-- a disk as it reads is one of its images
+pub read_is_image : (disk : DiskState) → since_of disk (moment_of disk) disk.bytes
+read_is_image disk = inr (omega arith, refl)

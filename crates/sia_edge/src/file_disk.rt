@@ -1,8 +1,8 @@
 //! A file of the system as a disk. No contract says which bytes it holds.
 ghost use Rattle.std.specs.Prelude.{◌≡◌, ◌+◌, ◌-◌, ◌^◌, ◌<◌, ◌≤◌, ℕ, false, Some, IfOk, IsNone, IsTrue, length};
-ghost use Rattle.sia_edge.specs.Edge.{GotWithin, PutWithin, GotCause};
-ghost use Rattle.sia_edge.specs.Disk.{GivesWithin, Gives, NoneMore, Passes, Lengthens, Overwrites, Follows, Torn, Cuts, Shortened, Settles, DidCause};
-ghost use Rattle.sia_edge.specs.FileDisk.{untold, no_image};
+ghost use Rattle.sia_edge.specs.Edge.{GotWithin, PutWithin, Rose};
+ghost use Rattle.sia_edge.specs.Disk.{GivesWithin, Gives, Quiet, Faulted, Lengthens, Overwrites, Changes, Torn, Cuts, Shortened, Settles};
+ghost use Rattle.sia_edge.specs.FileDisk.{untold, standing_of};
 ghost use Rattle.sia_edge.specs.Empty.{StaysEmpty};
 
 use crate::{Did, Disk, Got, Put};
@@ -117,7 +117,8 @@ impl FileDisk {
         ensures result { result ≡ did }
         ensures file { self.new.file ≡ self.old.file }
         ensures end { self.new.end ≡ self.old.end }
-        ensures cause { DidCause self.old.faults self.new.faults did }
+        ensures later { self.old.faults ≤ self.new.faults }
+        ensures cause { did ≡ Did.Failed → Rose self.old.faults self.new.faults }
     {
         if did == Did::Failed {
             self.faults = self.faults.saturating_add(1);
@@ -151,17 +152,9 @@ impl Disk for FileDisk {
 
     ghost tells = { false };
 
-    ghost seen = { λ disk. untold disk.end };
-
-    ghost moment = { λ disk. 0 };
-
-    ghost since = { λ disk. no_image };
-
-    ghost faults = { λ disk. disk.faults };
+    ghost standing = { λ disk. standing_of disk.end disk.faults };
 
     ghost as_read = { λ disk told. absurd (nothing_told told) };
-
-    ghost earlier = { λ disk t u c before within left. left };
 
     fn length(&self) -> u64
         ensures length { result ≡ length (untold self.now.end) }
@@ -175,10 +168,8 @@ impl Disk for FileDisk {
         requires inside { at ≤ length (untold self.old.end) }
         ensures bound { GivesWithin result (length buffer.new) at (length (untold self.old.end)) }
         ensures bytes { IsTrue false → Gives result buffer.new at (untold self.old.end) }
-        ensures same { untold self.new.end ≡ untold self.old.end }
-        ensures images { NoneMore (no_image 0) (no_image 0) }
-        ensures time { Passes 0 0 no_image no_image }
-        ensures cause { GotCause self.old.faults self.new.faults result }
+        ensures quiet { Quiet (standing_of self.old.end self.old.faults) (standing_of self.new.end self.new.faults) }
+        ensures cause { result ≡ Got.Failed → Faulted (standing_of self.old.end self.old.faults) (standing_of self.new.end self.new.faults) }
         ensures empty { IsNone self.old.file → (result ≡ Got.Failed) × IsNone self.new.file }
         ensures end { self.new.end ≡ self.old.end }
     {
@@ -193,9 +184,8 @@ impl Disk for FileDisk {
         requires { at ≤ length (untold self.old.end) }
         ensures end { Lengthens result (at + length bytes.now) (length (untold self.old.end)) (length (untold self.new.end)) }
         ensures bytes { IsTrue false → Overwrites result at bytes.now (untold self.old.end) (untold self.new.end) }
-        ensures images { Follows (Torn at (length bytes.now)) (no_image 0) (no_image 0) }
-        ensures time { Passes 0 0 no_image no_image }
-        ensures cause { DidCause self.old.faults self.new.faults result }
+        ensures changes { Changes (Torn at (length bytes.now)) (standing_of self.old.end self.old.faults) (standing_of self.new.end self.new.faults) }
+        ensures cause { result ≡ Did.Failed → Faulted (standing_of self.old.end self.old.faults) (standing_of self.new.end self.new.faults) }
         ensures empty { StaysEmpty self.old self.new result }
     {
         let Some(end) = at.checked_add(bytes.len() as u64) else {
@@ -214,9 +204,8 @@ impl Disk for FileDisk {
     fn cut(&mut self, len: u64) -> Did
         requires { len ≤ length (untold self.old.end) }
         ensures bytes { Cuts result len (untold self.old.end) (untold self.new.end) }
-        ensures images { Follows (Shortened len) (no_image 0) (no_image 0) }
-        ensures time { Passes 0 0 no_image no_image }
-        ensures cause { DidCause self.old.faults self.new.faults result }
+        ensures changes { Changes (Shortened len) (standing_of self.old.end self.old.faults) (standing_of self.new.end self.new.faults) }
+        ensures cause { result ≡ Did.Failed → Faulted (standing_of self.old.end self.old.faults) (standing_of self.new.end self.new.faults) }
         ensures empty { StaysEmpty self.old self.new result }
     {
         let did = match &self.file {
@@ -230,11 +219,9 @@ impl Disk for FileDisk {
     }
 
     fn sync(&mut self) -> Did
-        ensures same { untold self.new.end ≡ untold self.old.end }
-        ensures settled { Settles result (untold self.new.end) (no_image 0) }
-        ensures images { NoneMore (no_image 0) (no_image 0) }
-        ensures time { Passes 0 0 no_image no_image }
-        ensures cause { DidCause self.old.faults self.new.faults result }
+        ensures settled { Settles result (standing_of self.new.end self.new.faults) }
+        ensures quiet { Quiet (standing_of self.old.end self.old.faults) (standing_of self.new.end self.new.faults) }
+        ensures cause { result ≡ Did.Failed → Faulted (standing_of self.old.end self.old.faults) (standing_of self.new.end self.new.faults) }
         ensures empty { StaysEmpty self.old self.new result }
     {
         let did = match &self.file {

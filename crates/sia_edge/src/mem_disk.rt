@@ -1,9 +1,9 @@
 //! A disk in memory, which tells all images that a crash may leave.
 ghost use Rattle.std.specs.Prelude.{◌≡◌, ◌+◌, ◌<◌, ◌≤◌, ◌↔◌, ◌++◌, ◌∷◌, [], true, IsTrue, IfOk, OnOk, OnErr, length, take, drop, if◌then◌else◌};
-ghost use Rattle.sia_edge.specs.Edge.{GotCause};
-ghost use Rattle.sia_edge.specs.Disk.{GivesWithin, Gives, NoneMore, Passes, Lengthens, Overwrites, Follows, Torn, Cuts, Shortened, Settles, DidCause, overwritten};
+ghost use Rattle.sia_edge.specs.Edge.{Rose};
+ghost use Rattle.sia_edge.specs.Disk.{GivesWithin, Gives, Quiet, Faulted, Lengthens, Overwrites, Changes, Torn, Cuts, Shortened, Settles, overwritten};
 ghost use Rattle.sia_edge.specs.Memory.{fresh_plan, fails_next, after_call, given_of};
-ghost use Rattle.sia_edge.specs.MemDisk.{since_of, moment_of, plan_after, OverwritesOrKeeps, CutsOrKeeps, KeepsSync};
+ghost use Rattle.sia_edge.specs.MemDisk.{standing_of, plan_after, OverwritesOrKeeps, CutsOrKeeps, KeepsSync};
 ghost use Rattle.sia_edge.specs.Event.{Wrote, Cut};
 
 use crate::fault_plan::FaultPlan;
@@ -78,7 +78,8 @@ fn write_begun(bytes: &mut Vec<u8>, plan: &mut FaultPlan, at: usize, piece: &[u8
     ensures bytes { OverwritesOrKeeps result at piece.now bytes.old.items bytes.new.items }
     ensures plan { plan.new ≡ plan_after plan.old result }
     ensures fails { IsTrue (fails_next plan.old) → result ≡ Did.Failed }
-    ensures cause { DidCause plan.old.faults plan.new.faults result }
+    ensures later { plan.old.faults ≤ plan.new.faults }
+    ensures cause { result ≡ Did.Failed → Rose plan.old.faults plan.new.faults }
 {
     if plan.count_call() {
         return Did::Failed;
@@ -97,7 +98,8 @@ fn cut_begun(bytes: &mut Vec<u8>, plan: &mut FaultPlan, len: usize) -> Did
     ensures bytes { CutsOrKeeps result len bytes.old.items bytes.new.items }
     ensures plan { plan.new ≡ plan_after plan.old result }
     ensures fails { result ≡ Did.Failed ↔ IsTrue (fails_next plan.old) }
-    ensures cause { DidCause plan.old.faults plan.new.faults result }
+    ensures later { plan.old.faults ≤ plan.new.faults }
+    ensures cause { result ≡ Did.Failed → Rose plan.old.faults plan.new.faults }
 {
     if plan.count_call() {
         return Did::Failed;
@@ -107,21 +109,13 @@ fn cut_begun(bytes: &mut Vec<u8>, plan: &mut FaultPlan, len: usize) -> Did
 }
 
 impl Disk for MemDisk {
-    ghost use Rattle.sia_edge.specs.MemDisk.{read_is_image, since_earlier};
+    ghost use Rattle.sia_edge.specs.MemDisk.{read_is_image};
 
     ghost tells = { true };
 
-    ghost seen = { λ disk. disk.bytes };
-
-    ghost moment = { moment_of };
-
-    ghost since = { since_of };
-
-    ghost faults = { λ disk. disk.plan.faults };
+    ghost standing = { standing_of };
 
     ghost as_read = { λ disk told. read_is_image disk };
-
-    ghost earlier = { since_earlier };
 
     fn length(&self) -> u64 {
         self.bytes.len() as u64
@@ -133,10 +127,8 @@ impl Disk for MemDisk {
         requires inside { at ≤ length self.old.bytes }
         ensures bound { GivesWithin result (length buffer.new) at (length self.old.bytes) }
         ensures bytes { Gives result buffer.new at self.old.bytes }
-        ensures same { self.new.bytes ≡ self.old.bytes }
-        ensures images { NoneMore (since_of self.old (moment_of self.old)) (since_of self.new (moment_of self.old)) }
-        ensures time { Passes (moment_of self.old) (moment_of self.new) (since_of self.old) (since_of self.new) }
-        ensures cause { GotCause self.old.plan.faults self.new.plan.faults result }
+        ensures quiet { Quiet (standing_of self.old) (standing_of self.new) }
+        ensures cause { result ≡ Got.Failed → Faulted (standing_of self.old) (standing_of self.new) }
         ensures exact { result ≡ (if fails_next self.old.plan then Got.Failed else given_of (drop at self.old.bytes) (length buffer.old)) }
         ensures counted { self.new.plan ≡ after_call self.old.plan }
     {
@@ -153,9 +145,8 @@ impl Disk for MemDisk {
         requires { at ≤ length self.old.bytes }
         ensures end { Lengthens result (at + length bytes.now) (length self.old.bytes) (length self.new.bytes) }
         ensures bytes { Overwrites result at bytes.now self.old.bytes self.new.bytes }
-        ensures images { Follows (Torn at (length bytes.now)) (since_of self.old (moment_of self.old)) (since_of self.new (moment_of self.old)) }
-        ensures time { Passes (moment_of self.old) (moment_of self.new) (since_of self.old) (since_of self.new) }
-        ensures cause { DidCause self.old.plan.faults self.new.plan.faults result }
+        ensures changes { Changes (Torn at (length bytes.now)) (standing_of self.old) (standing_of self.new) }
+        ensures cause { result ≡ Did.Failed → Faulted (standing_of self.old) (standing_of self.new) }
         ensures whole { OverwritesOrKeeps result at bytes.now self.old.bytes self.new.bytes }
         ensures fails { IsTrue (fails_next self.old.plan) → result ≡ Did.Failed }
         ensures counted { self.new.plan ≡ plan_after self.old.plan result }
@@ -169,9 +160,8 @@ impl Disk for MemDisk {
     fn cut(&mut self, len: u64) -> Did
         requires { len ≤ length self.old.bytes }
         ensures bytes { Cuts result len self.old.bytes self.new.bytes }
-        ensures images { Follows (Shortened len) (since_of self.old (moment_of self.old)) (since_of self.new (moment_of self.old)) }
-        ensures time { Passes (moment_of self.old) (moment_of self.new) (since_of self.old) (since_of self.new) }
-        ensures cause { DidCause self.old.plan.faults self.new.plan.faults result }
+        ensures changes { Changes (Shortened len) (standing_of self.old) (standing_of self.new) }
+        ensures cause { result ≡ Did.Failed → Faulted (standing_of self.old) (standing_of self.new) }
         ensures whole { CutsOrKeeps result len self.old.bytes self.new.bytes }
         ensures fails { result ≡ Did.Failed ↔ IsTrue (fails_next self.old.plan) }
         ensures counted { self.new.plan ≡ plan_after self.old.plan result }
@@ -183,11 +173,9 @@ impl Disk for MemDisk {
 
     /// Fails exactly where its number is one of those that fail. It is noted where it is done.
     fn sync(&mut self) -> Did
-        ensures same { self.new.bytes ≡ self.old.bytes }
-        ensures settled { Settles result self.new.bytes (since_of self.new (moment_of self.new)) }
-        ensures images { NoneMore (since_of self.old (moment_of self.old)) (since_of self.new (moment_of self.old)) }
-        ensures time { Passes (moment_of self.old) (moment_of self.new) (since_of self.old) (since_of self.new) }
-        ensures cause { DidCause self.old.plan.faults self.new.plan.faults result }
+        ensures settled { Settles result (standing_of self.new) }
+        ensures quiet { Quiet (standing_of self.old) (standing_of self.new) }
+        ensures cause { result ≡ Did.Failed → Faulted (standing_of self.old) (standing_of self.new) }
         ensures fails { result ≡ Did.Failed ↔ IsTrue (fails_next self.old.plan) }
         ensures counted { self.new.plan ≡ plan_after self.old.plan result }
         ensures kept { KeepsSync result self.old.bytes self.old.events self.new.events }

@@ -3,7 +3,7 @@ use Rattle.sia_edge.specs.Event as event
 use Rattle.sia_edge.specs.History.{start_of, events_of}
 use Rattle.sia_edge.specs.MemDisk.{DiskState}
 use Rattle.sia_edge.proofs.Tears.{shortened_none}
-use Rattle.sia_edge.proofs.MemImages.{state, still_image, logged_follows, logged_passes, shortened_of}
+use Rattle.sia_edge.proofs.MemImages.{state, still_image, logged_changes, shortened_of}
 use Rattle.sia_edge.proofs.mem_disk.MemDiskDisk.cut.Goals as goal
 
 -- the disk before and after
@@ -22,10 +22,7 @@ invariant_of-self c =
     rw (c.note_cut.ensures.start, c.note_cut.ensures.events) (still_image (start_of c.self.inside.history) (events_of c.self.inside.history) (event.Cut c.args.len) c.cut_begun.new.bytes.items
     (c.self.inside.bytes.items, c.self.invariant, shortened c))
 
-pub returns-clause-images : goal.returns-clause-images
-returns-clause-images c =
-    rw (← c.self.view_is) (logged_follows (old c) (new c) (event.Cut c.args.len) c.note_cut.ensures.start c.note_cut.ensures.events (Shortened c.args.len)
-    (shortened_none c.args.len) (shortened c) (λ d image. image))
-
-pub returns-clause-time : goal.returns-clause-time
-returns-clause-time c = rw (← c.self.view_is) (logged_passes (old c) (new c) (event.Cut c.args.len) c.note_cut.ensures.start c.note_cut.ensures.events c.self.invariant)
+pub returns-clause-changes : goal.returns-clause-changes
+returns-clause-changes c =
+    rw (← c.self.view_is) (logged_changes (old c) (new c) (event.Cut c.args.len) c.note_cut.ensures.start c.note_cut.ensures.events c.cut_begun.ensures.later c.self.invariant
+    (Shortened c.args.len) (shortened_none c.args.len) (shortened c) (λ d image. image))

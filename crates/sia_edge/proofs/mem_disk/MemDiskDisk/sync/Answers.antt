@@ -2,7 +2,7 @@ use Rattle.std.proofs.Common.{refl}
 use Rattle.sia_edge.specs.Event as event
 use Rattle.sia_edge.specs.History.{start_of, events_of}
 use Rattle.sia_edge.specs.MemDisk.{DiskState}
-use Rattle.sia_edge.proofs.MemImages.{state, still_image, synced_only, synced_images}
+use Rattle.sia_edge.proofs.MemImages.{state, still_image, synced_only, synced_quiet}
 use Rattle.sia_edge.proofs.mem_disk.MemDiskDisk.sync.Goals as goal
 
 -- the disk before and after
@@ -17,7 +17,7 @@ invariant_of-self-2 c =
     rw (c.note_sync.ensures.start, c.note_sync.ensures.events) (still_image (start_of c.self.inside.history) (events_of c.self.inside.history) (event.Synced c.self.inside.bytes.items) c.self.inside.bytes.items refl)
 
 pub returns-clause-settled : goal.returns-clause-settled
-returns-clause-settled c = synced_only (old c) (new c) c.note_sync.ensures.start c.note_sync.ensures.events refl
+returns-clause-settled c = synced_only (old c) (new c) c.note_sync.ensures.start c.note_sync.ensures.events refl c.count_call.ensures.later
 
-pub returns-clause-images : goal.returns-clause-images
-returns-clause-images c = rw (← c.self.view_is) (synced_images (old c) (new c) c.note_sync.ensures.start c.note_sync.ensures.events refl)
+pub returns-clause-quiet : goal.returns-clause-quiet
+returns-clause-quiet c = rw (← c.self.view_is) (synced_quiet (old c) (new c) c.note_sync.ensures.start c.note_sync.ensures.events refl c.count_call.ensures.later c.self.invariant)

@@ -4,7 +4,7 @@ use Rattle.sia_edge.specs.Event as event
 use Rattle.sia_edge.specs.History.{start_of, events_of}
 use Rattle.sia_edge.specs.MemDisk.{DiskState}
 use Rattle.sia_edge.proofs.Tears.{torn_none}
-use Rattle.sia_edge.proofs.MemImages.{state, still_image, logged_follows, logged_passes, torn_of}
+use Rattle.sia_edge.proofs.MemImages.{state, still_image, logged_changes, torn_of}
 use Rattle.sia_edge.proofs.mem_disk.MemDiskDisk.write_at.Goals as goal
 
 -- the disk before and after
@@ -25,10 +25,7 @@ invariant_of-self c =
     rw (c.note_write.ensures.start, c.note_write.ensures.events) (still_image (start_of c.self.inside.history) (events_of c.self.inside.history) (event.Wrote c.args.at (length c.args.bytes.now)) c.write_begun.new.bytes.items
     (c.self.inside.bytes.items, c.self.invariant, written c))
 
-pub returns-clause-images : goal.returns-clause-images
-returns-clause-images c =
-    rw (← c.self.view_is) (logged_follows (old c) (new c) (event.Wrote c.args.at (length c.args.bytes.now)) c.note_write.ensures.start c.note_write.ensures.events (Torn c.args.at (length c.args.bytes.now))
-    (torn_none c.args.at (length c.args.bytes.now)) (written c) (λ d image. image))
-
-pub returns-clause-time : goal.returns-clause-time
-returns-clause-time c = rw (← c.self.view_is) (logged_passes (old c) (new c) (event.Wrote c.args.at (length c.args.bytes.now)) c.note_write.ensures.start c.note_write.ensures.events c.self.invariant)
+pub returns-clause-changes : goal.returns-clause-changes
+returns-clause-changes c =
+    rw (← c.self.view_is) (logged_changes (old c) (new c) (event.Wrote c.args.at (length c.args.bytes.now)) c.note_write.ensures.start c.note_write.ensures.events c.write_begun.ensures.later c.self.invariant
+    (Torn c.args.at (length c.args.bytes.now)) (torn_none c.args.at (length c.args.bytes.now)) (written c) (λ d image. image))
