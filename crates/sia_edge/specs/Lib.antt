@@ -3,7 +3,7 @@ pub mod Memory
 pub mod Whole
 pub mod Disk
 pub mod Event
-pub mod History
+pub mod EventLog
 pub mod MemDisk
+pub mod OpenedFile
 pub mod FileDisk
-pub mod Empty

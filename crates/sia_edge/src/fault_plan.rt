@@ -3,7 +3,7 @@ ghost use Rattle.std.specs.Prelude.{◌≡◌, ◌≤◌, IsTrue};
 ghost use Rattle.sia_edge.specs.Edge.{Rose};
 ghost use Rattle.sia_edge.specs.Memory.{fresh_plan, fails_next, after_call, after_fault};
 
-use crate::faults::Faults;
+use crate::fault_count::FaultCount;
 use sia_encoding::List;
 
 /// The numbers of the calls that fail, counted from 0, and how many calls and faults there were so far.
@@ -11,7 +11,7 @@ use sia_encoding::List;
 pub struct FaultPlan {
     fails: List<u64>,
     calls: u64,
-    faults: Faults,
+    faults: FaultCount,
 }
 
 impl FaultPlan {
@@ -22,7 +22,7 @@ impl FaultPlan {
         FaultPlan {
             fails,
             calls: 0,
-            faults: Faults::none(),
+            faults: FaultCount::none(),
         }
     }
 

@@ -18,13 +18,16 @@
 #![tactic(auto)]
 
 mod all;
+mod attempts;
 mod disk;
 mod fault_plan;
-mod faults;
+mod fault_count;
 mod file_disk;
-mod history;
+mod event_log;
 mod mem_disk;
 mod memory;
+mod opened_file;
+mod opening;
 mod read_disk;
 mod system;
 mod traits;
@@ -35,6 +38,7 @@ pub use fault_plan::FaultPlan;
 pub use file_disk::{Disks, FileDisk};
 pub use mem_disk::MemDisk;
 pub use memory::{MemSink, MemSource, SureSource};
+pub use opened_file::OpenedFile;
 pub use read_disk::{ReadFault, read_into, read_onto, read_whole};
 pub use system::{FileSink, FileSource, StdSink};
 pub use traits::{Got, Put, Sink, Source};

@@ -7,7 +7,7 @@ ghost use Rattle.sia_edge.specs.MemDisk.{standing_of, plan_after, OverwritesOrKe
 ghost use Rattle.sia_edge.specs.Event.{Wrote, Cut};
 
 use crate::fault_plan::FaultPlan;
-use crate::history::History;
+use crate::event_log::EventLog;
 use crate::memory::{copy_front, got_of};
 use crate::{Did, Disk, Got};
 use sia_encoding::{Blob, List};
@@ -19,19 +19,19 @@ use std::marker::Model;
 #[derive(Drop)]
 pub struct MemDisk {
     bytes: Vec<u8>,
-    history: History,
+    event_log: EventLog,
     plan: FaultPlan,
 }
 
 impl Model for MemDisk {
-    ghost use Rattle.sia_edge.specs.History.{start_of, events_of};
+    ghost use Rattle.sia_edge.specs.EventLog.{start_of, events_of};
     ghost use Rattle.sia_edge.specs.MemDisk.{DiskState, ReadIsImage};
 
     ghost Value = { DiskState };
 
-    ghost view = { λ disk. record { bytes = disk.bytes.items; start = start_of disk.history; events = events_of disk.history; plan = disk.plan } };
+    ghost view = { λ disk. record { bytes = disk.bytes.items; start = start_of disk.event_log; events = events_of disk.event_log; plan = disk.plan } };
 
-    ghost invariant = { λ disk. ReadIsImage (start_of disk.history) (events_of disk.history) disk.bytes.items };
+    ghost invariant = { λ disk. ReadIsImage (start_of disk.event_log) (events_of disk.event_log) disk.bytes.items };
 }
 
 impl MemDisk {
@@ -42,7 +42,7 @@ impl MemDisk {
     {
         let bytes = bytes.into_vec();
         MemDisk {
-            history: History::new(&bytes),
+            event_log: EventLog::new(&bytes),
             bytes,
             plan: FaultPlan::new(fails),
         }
@@ -152,7 +152,7 @@ impl Disk for MemDisk {
         ensures counted { self.new.plan ≡ plan_after self.old.plan result }
         ensures kept { self.new.events ≡ self.old.events ++ Wrote at (length bytes.now) ∷ [] }
     {
-        self.history.note_write(at, bytes.len() as u64);
+        self.event_log.note_write(at, bytes.len() as u64);
         write_begun(&mut self.bytes, &mut self.plan, at as usize, bytes)
     }
 
@@ -167,7 +167,7 @@ impl Disk for MemDisk {
         ensures counted { self.new.plan ≡ plan_after self.old.plan result }
         ensures kept { self.new.events ≡ self.old.events ++ Cut len ∷ [] }
     {
-        self.history.note_cut(len);
+        self.event_log.note_cut(len);
         cut_begun(&mut self.bytes, &mut self.plan, len as usize)
     }
 
@@ -183,7 +183,7 @@ impl Disk for MemDisk {
         if self.plan.count_call() {
             return Did::Failed;
         }
-        self.history.note_sync(&self.bytes);
+        self.event_log.note_sync(&self.bytes);
         Did::Done
     }
 }

@@ -1,52 +1,20 @@
 //! Files and standard streams as sources and sinks. No contract says which bytes they give or take.
-ghost use Rattle.std.specs.Prelude.{◌≡◌, ◌≤◌, None, Some, IsNone, length};
+ghost use Rattle.std.specs.Prelude.{◌≡◌, ◌<◌, ◌≤◌, None, Some, IsNone, length};
 ghost use Rattle.sia_edge.specs.Edge.{GotWithin, Reads, GotCause, PutWithin, Writes, PutCause};
 
-use crate::faults::Faults;
+use crate::attempts::{read_some, write_some};
+use crate::fault_count::FaultCount;
 use crate::{Got, Put, Sink, Source};
 use std::fs::{self, File};
-use std::io::{ErrorKind, Read, Stderr, Stdout, Write};
+use std::io::{Stderr, Stdout};
 use std::rt::Files;
 use std::str;
-
-/// One read, tried again where a signal interrupts it.
-fn read_some<R: Read>(reader: &mut R, buffer: &mut [u8]) -> Got
-    ensures { GotWithin result (length buffer.new) }
-{
-    for _ in 0..u64::MAX {
-        match reader.read(buffer) {
-            Ok(0) => return Got::End,
-            Ok(count) => return Got::Bytes(count),
-            Err(error) if error.kind() == ErrorKind::Interrupted => {}
-            Err(_) => return Got::Failed,
-        }
-    }
-    Got::Failed
-}
-
-/// One write, tried again where a signal interrupts it. Taking none of a piece that isn't empty is a failure.
-fn write_some<W: Write>(writer: &mut W, piece: &[u8]) -> Put
-    ensures { PutWithin result (length piece.now) }
-{
-    if piece.is_empty() {
-        return Put::Taken(0);
-    }
-    for _ in 0..u64::MAX {
-        match writer.write(piece) {
-            Ok(0) => return Put::Failed,
-            Ok(count) => return Put::Taken(count),
-            Err(error) if error.kind() == ErrorKind::Interrupted => {}
-            Err(_) => return Put::Failed,
-        }
-    }
-    Put::Failed
-}
 
 /// A file that is read from its start to its end, or none, for a file that didn't open.
 #[derive(Drop)]
 pub struct FileSource {
     file: Option<File>,
-    faults: Faults,
+    faults: FaultCount,
 }
 
 impl FileSource {
@@ -57,7 +25,7 @@ impl FileSource {
     {
         FileSource {
             file: Some(file),
-            faults: Faults::none(),
+            faults: FaultCount::none(),
         }
     }
 
@@ -68,7 +36,7 @@ impl FileSource {
     {
         FileSource {
             file: None,
-            faults: Faults::none(),
+            faults: FaultCount::none(),
         }
     }
 
@@ -92,6 +60,7 @@ impl Source for FileSource {
     ghost faults = { λ source. source.faults };
 
     fn read(&mut self, buffer: &mut [u8]) -> Got
+        requires { 0 < length buffer.old }
         ensures bound { GotWithin result (length buffer.new) }
         ensures bytes { Reads None None result buffer.new }
         ensures cause { GotCause self.old.faults self.new.faults result }
@@ -112,7 +81,7 @@ impl Source for FileSource {
 #[derive(Drop)]
 pub struct FileSink {
     file: Option<File>,
-    faults: Faults,
+    faults: FaultCount,
 }
 
 impl FileSink {
@@ -123,7 +92,7 @@ impl FileSink {
     {
         FileSink {
             file: Some(file),
-            faults: Faults::none(),
+            faults: FaultCount::none(),
         }
     }
 
@@ -134,7 +103,7 @@ impl FileSink {
     {
         FileSink {
             file: None,
-            faults: Faults::none(),
+            faults: FaultCount::none(),
         }
     }
 
@@ -185,7 +154,7 @@ enum Stream {
 #[derive(Drop)]
 pub struct StdSink {
     stream: Stream,
-    faults: Faults,
+    faults: FaultCount,
 }
 
 impl StdSink {
@@ -195,7 +164,7 @@ impl StdSink {
     {
         StdSink {
             stream: Stream::Output(stream),
-            faults: Faults::none(),
+            faults: FaultCount::none(),
         }
     }
 
@@ -205,7 +174,7 @@ impl StdSink {
     {
         StdSink {
             stream: Stream::Error(stream),
-            faults: Faults::none(),
+            faults: FaultCount::none(),
         }
     }
 }

@@ -1,7 +1,7 @@
 use Rattle.std.proofs.Common.{◌≤◌, length, sym, subst}
 use Rattle.sia_edge.specs.Disk.{Torn}
 use Rattle.sia_edge.specs.Event as event
-use Rattle.sia_edge.specs.History.{start_of, events_of}
+use Rattle.sia_edge.specs.EventLog.{start_of, events_of}
 use Rattle.sia_edge.specs.MemDisk.{DiskState}
 use Rattle.sia_edge.proofs.Tears.{torn_none}
 use Rattle.sia_edge.proofs.MemImages.{state, still_image, logged_changes, torn_of}
@@ -9,7 +9,7 @@ use Rattle.sia_edge.proofs.mem_disk.MemDiskDisk.write_at.Goals as goal
 
 -- the disk before and after
 abbrev old : goal.After-write_begun → DiskState
-old c = state c.self.inside.bytes.items (start_of c.self.inside.history) (events_of c.self.inside.history) c.self.inside.plan
+old c = state c.self.inside.bytes.items (start_of c.self.inside.event_log) (events_of c.self.inside.event_log) c.self.inside.plan
 
 abbrev new : goal.After-write_begun → DiskState
 new c = state c.write_begun.new.bytes.items (start_of c.note_write.new.self) (events_of c.note_write.new.self) c.write_begun.new.plan
@@ -22,7 +22,7 @@ written c =
 
 pub invariant_of-self : goal.invariant_of-self
 invariant_of-self c =
-    rw (c.note_write.ensures.start, c.note_write.ensures.events) (still_image (start_of c.self.inside.history) (events_of c.self.inside.history) (event.Wrote c.args.at (length c.args.bytes.now)) c.write_begun.new.bytes.items
+    rw (c.note_write.ensures.start, c.note_write.ensures.events) (still_image (start_of c.self.inside.event_log) (events_of c.self.inside.event_log) (event.Wrote c.args.at (length c.args.bytes.now)) c.write_begun.new.bytes.items
     (c.self.inside.bytes.items, c.self.invariant, written c))
 
 pub returns-clause-changes : goal.returns-clause-changes

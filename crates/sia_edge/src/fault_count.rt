@@ -7,11 +7,11 @@ use std::marker::Model;
 
 /// A count of faults, which each object that can fail keeps. It stays at the greatest `u64`.
 #[derive(Drop)]
-pub(crate) struct Faults {
+pub(crate) struct FaultCount {
     count: u64,
 }
 
-impl Model for Faults {
+impl Model for FaultCount {
     ghost use Rattle.std.specs.Prelude.{ℕ};
 
     ghost Value = { ℕ };
@@ -19,12 +19,12 @@ impl Model for Faults {
     ghost view = { λ faults. faults.count };
 }
 
-impl Faults {
+impl FaultCount {
     /// No call has failed so far.
-    pub(crate) fn none() -> Faults
+    pub(crate) fn none() -> FaultCount
         ensures { result ≡ 0 }
     {
-        Faults { count: 0 }
+        FaultCount { count: 0 }
     }
 
     /// Counts a call that failed.

@@ -1,39 +1,39 @@
 //! What a disk in memory was told to do, which only clauses read.
 ghost use Rattle.std.specs.Prelude.{◌≡◌, [], ◌∷◌, ◌++◌, length};
 ghost use Rattle.sia_edge.specs.Event.{Wrote, Cut, Synced};
-ghost use Rattle.sia_edge.specs.History.{start_of, events_of};
+ghost use Rattle.sia_edge.specs.EventLog.{start_of, events_of};
 
 use std::snapshot::Snapshot;
 
 /// What a disk held when it was made, and what it was told to do since. None of it is kept at run time, since a snapshot has
 /// no bytes.
 #[derive(Drop)]
-pub(crate) enum History {
+pub(crate) enum EventLog {
     Made {
         bytes: Snapshot<Vec<u8>>,
     },
     Wrote {
-        before: Snapshot<History>,
+        before: Snapshot<EventLog>,
         at: Snapshot<u64>,
         count: Snapshot<u64>,
     },
     Cut {
-        before: Snapshot<History>,
+        before: Snapshot<EventLog>,
         len: Snapshot<u64>,
     },
     Synced {
-        before: Snapshot<History>,
+        before: Snapshot<EventLog>,
         bytes: Snapshot<Vec<u8>>,
     },
 }
 
-impl History {
+impl EventLog {
     /// That of a disk that was made with these bytes.
-    pub(crate) fn new(bytes: &Vec<u8>) -> History
+    pub(crate) fn new(bytes: &Vec<u8>) -> EventLog
         ensures start { start_of result ≡ bytes.now.items }
         ensures events { events_of result ≡ [] }
     {
-        History::Made {
+        EventLog::Made {
             bytes: Snapshot::of(bytes),
         }
     }
@@ -43,7 +43,7 @@ impl History {
         ensures start { start_of self.new ≡ start_of self.old }
         ensures events { events_of self.new ≡ events_of self.old ++ Wrote at count ∷ [] }
     {
-        *self = History::Wrote {
+        *self = EventLog::Wrote {
             before: Snapshot::of(self),
             at: Snapshot::of(&at),
             count: Snapshot::of(&count),
@@ -55,7 +55,7 @@ impl History {
         ensures start { start_of self.new ≡ start_of self.old }
         ensures events { events_of self.new ≡ events_of self.old ++ Cut len ∷ [] }
     {
-        *self = History::Cut {
+        *self = EventLog::Cut {
             before: Snapshot::of(self),
             len: Snapshot::of(&len),
         };
@@ -66,7 +66,7 @@ impl History {
         ensures start { start_of self.new ≡ start_of self.old }
         ensures events { events_of self.new ≡ events_of self.old ++ Synced bytes.now.items ∷ [] }
     {
-        *self = History::Synced {
+        *self = EventLog::Synced {
             before: Snapshot::of(self),
             bytes: Snapshot::of(bytes),
         };
