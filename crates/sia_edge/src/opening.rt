@@ -31,7 +31,7 @@ pub(crate) fn open_named<R: Files<File = File>>(
 }
 
 /// Syncs the folder of a name, so that a file that was just made stays.
-pub(crate) fn sync_folder<R: Files<File = File>>(rt: &R, name: &[u8]) -> io::Result<()> {
+fn sync_folder<R: Files<File = File>>(rt: &R, name: &[u8]) -> io::Result<()> {
     let Ok(path) = str::from_utf8(name) else {
         return Err(ErrorKind::InvalidInput.into());
     };
@@ -39,6 +39,20 @@ pub(crate) fn sync_folder<R: Files<File = File>>(rt: &R, name: &[u8]) -> io::Res
     match path.parent() {
         Some(folder) if !folder.as_str().is_empty() => fs::open(rt, folder.as_str())?.sync_all(),
         _ => fs::open(rt, ".")?.sync_all(),
+    }
+}
+
+/// Opens the file of a sink for writing, and makes it and syncs its folder where it is missing.
+pub(crate) fn open_or_make<R: Files<File = File>>(rt: &R, name: &[u8]) -> io::Result<File> {
+    match open_named(rt, OpenOptions::new().write(true).create_new(true), name) {
+        Ok(file) => {
+            sync_folder(rt, name)?;
+            Ok(file)
+        }
+        Err(error) if error.kind() == ErrorKind::AlreadyExists => {
+            open_named(rt, OpenOptions::new().write(true), name)
+        }
+        Err(error) => Err(error),
     }
 }
 
@@ -55,9 +69,11 @@ fn settle(file: &File) -> io::Result<()> {
 /// Opens the file of a disk, and makes it where it is missing. No other program has it locked, and it and its folder are
 /// synced.
 pub(crate) fn open_settled<R: Files<File = File>>(rt: &R, name: &[u8]) -> io::Result<File> {
-    let mut options = OpenOptions::new();
-    options.read(true).write(true).create(true);
-    let file = open_named(rt, &options, name)?;
+    let file = open_named(
+        rt,
+        OpenOptions::new().read(true).write(true).create(true),
+        name,
+    )?;
     file.try_lock()?;
     settle(&file)?;
     sync_folder(rt, name)?;
