@@ -1,4 +1,4 @@
--- What a disk in memory was told to do, as its snapshots show it.
+-- What a disk in memory was told to do, as its snapshots show it: the writes, cuts and syncs of POSIX.
 use Rattle.std.specs.Prelude.{ℕ, List, [], ◌∷◌, ◌++◌}
 use Rattle.sia_edge.specs.Event as event
 use Rattle.sia_edge.specs.Event.{Event}

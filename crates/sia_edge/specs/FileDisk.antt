@@ -1,4 +1,4 @@
--- A file of the system as a disk: contracts see how long it is, and no byte of it.
+-- A file of the system as a disk (POSIX): contracts see how long it is, and no byte of it.
 use Rattle.std.specs.Prelude.{◌≡◌, ℕ, List, Option, IsNone, false, IsTrue, replicate}
 use Rattle.std.proofs.Common.{rules}
 use Rattle.sia_edge.specs.Disk.{Standing}

@@ -1,7 +1,8 @@
 //! A file of the system as a disk. No contract says which bytes it holds.
-ghost use Rattle.std.specs.Prelude.{◌≡◌, ◌+◌, ◌-◌, ◌^◌, ◌<◌, ◌≤◌, ℕ, false, Some, IfOk, IfSome, IsNone, IsTrue, length, option_map, take, max};
+ghost use Rattle.std.specs.Prelude.{◌≡◌, ◌+◌, ◌-◌, ◌^◌, ◌<◌, ◌≤◌, ℕ, false, Some, IfOk, IfSome, IsNone, IsTrue, length, option_map, take, drop, max};
 ghost use Rattle.sia_edge.specs.Disk.{GivesWithin, Gives, Quiet, Faulted, Lengthens, Overwrites, Changes, Torn, Cuts, Shortened, Settles, overwritten};
-ghost use Rattle.sia_edge.specs.OpenedFile.{ReadsAt, told_of};
+ghost use Rattle.sia_edge.specs.Edge.{PutWithin};
+ghost use Rattle.sia_edge.specs.OpenedFile.{PutsAt, told_of};
 ghost use Rattle.sia_edge.specs.FileDisk.{untold, untold_standing, FailsForGood};
 
 use crate::fault_count::FaultCount;
@@ -22,6 +23,18 @@ fn has_size<F: OpenedFile>(file: &F, end: u64) -> bool
     }
 }
 
+/// One write of what is left behind the first `done` of the bytes that go to a place.
+fn write_rest<F: OpenedFile>(file: &mut F, at: u64, bytes: &[u8], done: usize) -> Put
+    requires left { done < length bytes.now }
+    requires room { at + length bytes.now < 2 ^ 64 }
+    requires inside { IfSome (F.held file.old) (λ held. at + done ≤ length held) }
+    ensures bound { PutWithin result (length (drop done bytes.now)) }
+    ensures bytes { PutsAt result (at + done) (drop done bytes.now) (F.held file.old) (F.held file.new) }
+{
+    let (_, rest) = bytes.split_at(done);
+    file.write_at(at + done as u64, rest)
+}
+
 /// Writes all the bytes at a place.
 fn write_whole_at<F: OpenedFile>(file: &mut F, at: u64, bytes: &[u8]) -> Did
     requires room { at + length bytes.now < 2 ^ 64 }
@@ -30,7 +43,7 @@ fn write_whole_at<F: OpenedFile>(file: &mut F, at: u64, bytes: &[u8]) -> Did
 {
     let mut done = 0;
     while done < bytes.len() {
-        match file.write_at(at + done as u64, &bytes[done..]) {
+        match write_rest(file, at, bytes, done) {
             Put::Taken(count) => done += count,
             Put::Failed => return Did::Failed,
         }

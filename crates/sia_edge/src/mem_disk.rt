@@ -6,8 +6,8 @@ ghost use Rattle.sia_edge.specs.Memory.{fresh_plan, fails_next, after_call, give
 ghost use Rattle.sia_edge.specs.MemDisk.{standing_of, plan_after, OverwritesOrKeeps, CutsOrKeeps, KeepsSync};
 ghost use Rattle.sia_edge.specs.Event.{Wrote, Cut};
 
-use crate::fault_plan::FaultPlan;
 use crate::event_log::EventLog;
+use crate::fault_plan::FaultPlan;
 use crate::memory::{copy_front, got_of};
 use crate::{Did, Disk, Got};
 use sia_encoding::{Blob, List};
