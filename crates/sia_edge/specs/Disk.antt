@@ -76,9 +76,17 @@ images_of disk = disk.since disk.moment
 abbrev pub images_since : Standing → Standing → List ℕ → Type 0
 images_since old new = new.since old.moment
 
+-- each image that a crash may leave now has P
+abbrev pub EachImage : (List ℕ → Type 0) → Standing → Type 0
+EachImage P disk = (image : List ℕ) → images_of disk image → P image
+
+-- nothing is pending: a crash leaves what a read gives
+abbrev pub IsSettled : Standing → Type 0
+IsSettled disk = Only disk.seen (images_of disk)
+
 -- a sync that was done leaves one image
 abbrev pub Settles : Did → Standing → Type 0
-Settles did.Done disk = Only disk.seen (images_of disk)
+Settles did.Done disk = IsSettled disk
 Settles did.Failed disk = Unit {0}
 
 -- The count of faults rose.

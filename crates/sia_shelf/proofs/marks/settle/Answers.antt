@@ -3,7 +3,7 @@ use Rattle.std.proofs.lemmas.List.Edits.{map_over_more}
 use Rattle.std.proofs.lemmas.Option.{get_or_from_slice_get, slice_get-get_or}
 use Rattle.sia_shelf.specs.Shelf.{settled}
 use Rattle.sia_shelf.specs.declared.mark.Mark.TheVariants as mark
-use Rattle.sia_shelf.proofs.mark.settle.Goals as goal
+use Rattle.sia_shelf.proofs.marks.settle.Goals as goal
 
 pub loop-mark-preserved : goal.loop-mark-preserved
 loop-mark-preserved c =
