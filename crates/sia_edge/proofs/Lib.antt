@@ -4,3 +4,4 @@ pub mod Runs
 pub mod Filling
 pub mod Tears
 pub mod MemImages
+pub mod Pieces

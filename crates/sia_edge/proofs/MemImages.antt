@@ -2,8 +2,8 @@
 use Rattle.std.proofs.Common.{◌≡◌, ◌⊎◌, ◌++◌, ℕ, ◌+◌, ◌≤◌, List, [], ◌∷◌, length, arith, sym, refl, subst, inl, inr}
 use Rattle.std.proofs.lemmas.Bool.{cases_lt}
 use Rattle.std.proofs.lemmas.List.{take_all, take-append-le, length-append}
-use Rattle.sia_edge.specs.declared.mem_disk.Event.{Event}
-use Rattle.sia_edge.specs.declared.mem_disk.Event.TheVariants as event
+use Rattle.sia_edge.specs.Event.{Event}
+use Rattle.sia_edge.specs.Event as event
 use Rattle.sia_edge.specs.declared.fault_plan.FaultPlan.{FaultPlan}
 use Rattle.sia_edge.specs.declared.disk.Did.{Did}
 use Rattle.sia_edge.specs.declared.disk.Did.TheVariants as did
