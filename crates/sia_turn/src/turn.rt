@@ -13,6 +13,7 @@ use std::alloc::{AllocError, Global};
 use std::marker::Model;
 use std::sync::Wait;
 
+mod many;
 mod moves;
 
 /// The rule of a turn, which is told the number of its seats.

@@ -1,7 +1,7 @@
 -- The pass stays a worker's.
 use Rattle.std.proofs.Common.{◌-◌}
 use Rattle.sia_turn.specs.Tokens.{IsWorker}
-use Rattle.sia_turn.proofs.tests.add_all.Given as goal
+use Rattle.sia_host_tests.proofs.turn.add_all.Given as goal
 
 abbrev pub invariant-loop-number : goal.invariant-loop-number
 invariant-loop-number g l = IsWorker l.turn.turn l.pass

@@ -2,8 +2,7 @@
 ghost use Rattle.std.specs.Prelude.{◌≡◌, ℕ, ◌+◌, ◌^◌, ◌<◌, List, [], ◌∷◌, ◌++◌, length, true, false, Some, slice_get, IfOk, OnOk, OnErr};
 ghost use Rattle.sia_turn.specs.Entries.{StartsWith};
 
-use crate::logged::{Logged, Named, Nothing};
-use crate::turn::{Pass, Turn};
+use sia_turn::{Logged, Named, Nothing, Pass, Turn};
 use std::alloc::{AllocError, Global};
 use std::marker::{Brand, Model, PhantomData};
 use std::sync::Wait;

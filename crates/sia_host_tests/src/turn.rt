@@ -1,9 +1,9 @@
-// No clause says that a turn comes: here threads take many turns, and end.
+//! No clause says that a turn comes: here threads take many turns, and end.
 ghost use Rattle.std.specs.Prelude.{◌≡◌, ◌+◌, ◌<◌, ◌≤◌, false, length, vec_len, All, IfOk, OnOk};
 ghost use Rattle.sia_turn.specs.Tokens.{IsWorker};
 
 use crate::numbers::{Numbers, add};
-use crate::{Logged, Nothing, Pass, Turn};
+use sia_turn::{Logged, Nothing, Pass, Turn};
 use std::alloc::{AllocError, Global};
 use std::sync::Wait;
 use std::test::Fail;
@@ -34,55 +34,24 @@ fn add_all<R: Wait>(
 fn add_from_all<R: Threads + Wait + Sync>(
     rt: &R,
     turn: &Turn<Numbers>,
-    passes: &mut [Pass<Numbers>],
+    passes: &mut Vec<Pass<Numbers>>,
     total: usize,
 )
     requires total { total ≤ 10000 }
-    requires some { (0 < length passes.old) × (length passes.old ≤ 65) }
-    requires workers { All (IsWorker turn.now.turn) passes.old }
-    ensures { All (IsWorker turn.now.turn) passes.new }
+    requires some { (0 < vec_len passes.old) × (vec_len passes.old ≤ 65) }
+    requires workers { All (IsWorker turn.now.turn) passes.old.items }
+    ensures len { vec_len passes.new ≡ vec_len passes.old }
+    ensures workers { All (IsWorker turn.now.turn) passes.new.items }
 {
     let workers = passes.len();
     for_each_mut(
         rt,
-        passes,
+        passes.as_mut_slice(),
         workers,
         &|i, pass| {
             let _ = add_all(rt, turn, pass, i, workers, total);
         },
     );
-}
-
-// So many passes, which the first one splits off.
-fn split_all(
-    alloc: Global,
-    turn: &Turn<Numbers>,
-    first: &mut Pass<Numbers>,
-    workers: usize,
-) -> Result<Vec<Pass<Numbers>>, AllocError>
-    requires first { (first.old.turn ≡ turn.now.turn) × (first.old.inside ≡ false) }
-    requires room { first.old.rest ≡ workers }
-    ensures first { (first.new.turn ≡ turn.now.turn) × (first.new.inside ≡ false) × (first.new.parts ≡ first.old.parts) }
-    ensures workers { IfOk result (λ passes. (vec_len passes ≡ workers) × All (IsWorker turn.now.turn) passes.items) }
-    ensures rest { OnOk result (first.new.rest ≡ 0) }
-{
-    let mut passes = Vec::new(alloc);
-    for _ in 0..workers {
-        passes.push(turn.split(first))?;
-    }
-    Ok(passes)
-}
-
-// The first pass takes the others in.
-fn gather(turn: &Turn<Numbers>, first: &mut Pass<Numbers>, mut passes: Vec<Pass<Numbers>>)
-    requires first { (first.old.turn ≡ turn.now.turn) × (first.old.inside ≡ false) }
-    requires workers { All (IsWorker turn.now.turn) passes.items }
-    ensures first { (first.new.turn ≡ turn.now.turn) × (first.new.inside ≡ false) }
-    ensures sums { (first.new.parts ≡ first.old.parts + vec_len passes) × (first.new.rest ≡ first.old.rest) }
-{
-    while let Some(pass) = passes.pop() {
-        turn.join(first, pass);
-    }
 }
 
 // The numbers below `total`, as so many workers add them.
@@ -99,9 +68,9 @@ fn numbers_by<R: Threads + Wait + Sync>(
     let Ok((turn, mut first)) = Turn::new::<Nothing>(alloc, Numbers::new(alloc), seats) else {
         return Err(AllocError);
     };
-    let mut passes = split_all(alloc, &turn, &mut first, workers)?;
-    add_from_all(rt, &turn, passes.as_mut_slice(), total);
-    gather(&turn, &mut first, passes);
+    let mut passes = turn.split_all(alloc, &mut first, workers)?;
+    add_from_all(rt, &turn, &mut passes, total);
+    turn.gather(&mut first, passes);
     Ok(turn.close(first))
 }
 
