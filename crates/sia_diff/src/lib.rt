@@ -20,8 +20,6 @@
 
 mod check;
 mod chosen;
-mod cover;
-mod join;
 mod laws;
 mod moving;
 mod places;
@@ -34,5 +32,3 @@ pub use places::touched;
 pub use prove::prove_diff;
 pub use steps::DiffStep;
 
-#[cfg(test)]
-mod tests;

@@ -12,7 +12,8 @@ use Rattle.std.proofs.lemmas.Int.Digits.{all_below_base_digits_of, digits_of_ste
 use Rattle.std.proofs.lemmas.Nat.{le_bytes_8, from_le_bytes-to_le_bytes_8}
 use Rattle.sia_encoding.specs.declared.fault.DecodeFault.{DecodeFault}
 use Rattle.sia_encoding.specs.Spelling.{spelled_u64, spelled_bool, spelled_bytes, spelled_currency, spelled_list}
-use Rattle.sia_encoding.specs.Reading.{Spot, fixed_at, u64_at, bool_at, bool_of, count_at, bytes_at, width_at, digits_at, elements_at, list_at, begins_with_zero, currency_of, currency_at, ◌>>=◌}
+use Rattle.sia_encoding.specs.Answer.{◌>>=◌}
+use Rattle.sia_encoding.specs.Reading.{Spot, fixed_at, u64_at, bool_at, bool_of, count_at, bytes_at, width_at, digits_at, elements_at, list_at, begins_with_zero, currency_of, currency_at}
 use Rattle.sia_encoding.specs.Codec.{AreBytes, spot, IsSpelled, IsCodec, IsFixed, IsU64, IsBool, IsCount, IsByteString, IsCurrency, IsListOf, spelled_fixed}
 use Rattle.sia_encoding.proofs.CodecLemmas.{codec, fixed_codec, judged_codec, counted_codec, followed, still_bytes, else_holds, else_is, then_holds, then_is}
 

@@ -3,7 +3,8 @@ ghost use Rattle.std.specs.Prelude.{◌≡◌, ℕ, List as Sequence, ◌++◌, 
 ghost use Rattle.std.specs.List.{flat_map};
 ghost use Rattle.sia_encoding.specs.declared.fault.DecodeFault.{DecodeFault};
 ghost use Rattle.sia_encoding.specs.Spelling.{spelled_bytes, spelled_currency, spelled_u64};
-ghost use Rattle.sia_encoding.specs.Reading.{Spot, TakesInMemory, bytes_at, currency_at, elements_at, fixed_at, u64_at};
+ghost use Rattle.sia_encoding.specs.Answer.{Answers};
+ghost use Rattle.sia_encoding.specs.Reading.{Spot, fault_told, bytes_at, currency_at, elements_at, fixed_at, u64_at};
 ghost use Rattle.sia_encoding.specs.Codec.{IsByteString, IsCurrency, IsFixed, IsU64, spelled_fixed};
 
 use crate::blob::Blob;
@@ -26,7 +27,7 @@ pub trait Item: Drop {
 
     /// Reads one value and goes on behind it, or answers the first fault and stays.
     fn take(alloc: Global, cursor: &mut Cursor<'_>) -> Result<Self, DecodeFault>
-        ensures reading { TakesInMemory result cursor.new (reading cursor.old) }
+        ensures reading { Answers (λ value. (value, cursor.new)) fault_told result (reading cursor.old) }
         ensures kept { OnErr result (cursor.new ≡ cursor.old) };
 
     /// Appends the value's spelling to the bytes that are there. Its error is want of memory: `out` stays.
@@ -173,7 +174,7 @@ fn take_elements<T: Item>(
     cursor: &mut Cursor<'_>,
     count: u64,
 ) -> Result<List<T>, DecodeFault>
-    ensures { TakesInMemory result cursor.new (elements_at T.reading count cursor.old) }
+    ensures { Answers (λ value. (value, cursor.new)) fault_told result (elements_at T.reading count cursor.old) }
 {
     let mut items = List::new(alloc);
     for _ in 0..count {

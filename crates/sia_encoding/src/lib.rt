@@ -21,6 +21,7 @@ mod cursor;
 mod fault;
 mod item;
 pub mod laws;
+pub mod limits;
 mod list;
 mod put;
 mod steps;

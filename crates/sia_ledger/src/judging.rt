@@ -1,6 +1,7 @@
 //! Whether a block may follow, and whether a chain may begin.
 ghost use Rattle.std.specs.Prelude.{◌≡◌, ◌≤◌, ◌^◌, IfOk};
-ghost use Rattle.sia_ledger.specs.Answers.{Judges, JudgesGenesis};
+ghost use Rattle.sia_encoding.specs.Answer.{Answers, unless};
+ghost use Rattle.sia_ledger.specs.Answers.{block_told, genesis_told};
 ghost use Rattle.sia_ledger.specs.Facts.{block_facts};
 ghost use Rattle.sia_ledger.specs.Identifiers.{block_id};
 ghost use Rattle.sia_ledger.specs.Refusal.{verdict, genesis_refusal};
@@ -45,7 +46,7 @@ pub(crate) fn judge(
 ) -> Result<Judged, BlockFault>
     requires maturity { maturity ≤ 10000 }
     requires height { height ≤ 2 ^ 32 }
-    ensures judged { Judges result (verdict tip.now maturity height kept.now block.now) }
+    ensures judged { Answers (λ _. tt) block_told result (unless (verdict tip.now maturity height kept.now block.now)) }
     ensures id { IfOk result (λ judged. judged.id ≡ block_id block.now) }
     ensures made { IfOk result (λ judged. judged.made ≡ block_facts maturity height block.now) }
 {
@@ -72,7 +73,7 @@ pub(crate) fn judge(
 
 /// Whether a chain may begin from the parameters.
 pub(crate) fn check_params(params: &Params) -> Result<(), GenesisFault>
-    ensures { JudgesGenesis result (genesis_refusal params.now) }
+    ensures { Answers (λ _. tt) genesis_told result (unless (genesis_refusal params.now)) }
 {
     let funds = params.funds.as_slice();
     let got = sum_of_funds(funds);

@@ -13,7 +13,7 @@ use Rattle.sia_ledger.specs.declared.block.Params.{Params}
 use Rattle.sia_ledger.specs.Refusal.{genesis_refusal, wrong_funds, wrong_maturity}
 use Rattle.sia_program.specs.declared.config.ConfigFault.TheVariants.{Text, Key}
 use Rattle.sia_program.specs.declared.config.ConfigKey.TheVariants.{Maturity, Siafund}
-use Rattle.sia_program.specs.Steps.{◌>>=◌}
+use Rattle.sia_encoding.specs.Answer.{◌>>=◌}
 use Rattle.sia_program.specs.Config.{document, chain_key, integer_or, maturity_of, siafunds_of_items, siafund_sum, is_whole_issue, whole_issue, siafunds_of, config_of}
 use Rattle.sia_program.proofs.Siafunds.{between-bounds, IsEntry, siafunds_of_items-entries}
 

@@ -1,15 +1,14 @@
 -- The laws of records, made of those of their fields.
-use Rattle.std.proofs.Common.{◌≡◌, ℕ, ◌+◌, List, [], ◌++◌, length, take, IfOk, IfErr, MatchResult, Result, Ok, Err, refl, sym, ap, subst, ◌∙◌, append_assoc, length-append, arith}
+use Rattle.std.proofs.Common.{◌≡◌, ℕ, ◌+◌, List, ◌++◌, length, take, IfOk, IfErr, MatchResult, Result, Ok, Err, refl, sym, ap, subst, ◌∙◌, append_assoc, length-append, arith}
 use Rattle.std.proofs.Math.Seq.{take-append_seam}
 use Rattle.std.specs.Result.{result_unwrap_or}
 use Rattle.sia_encoding.specs.declared.fault.DecodeFault.{DecodeFault}
 use Rattle.sia_encoding.specs.declared.fault.DecodeFault.TheVariants as fault
-use Rattle.sia_encoding.specs.Reading.{Spot, past, ◌>>=◌}
-use Rattle.sia_encoding.specs.Codec.{AreBytes, spot, IsSpelled, IsCodec, IsFixed, spelled_fixed}
+use Rattle.sia_encoding.specs.Answer.{◌>>=◌}
+use Rattle.sia_encoding.specs.Reading.{Spot, past}
+use Rattle.sia_encoding.specs.Codec.{AreBytes, spot, IsSpelled, IsCodec}
 use Rattle.sia_encoding.proofs.CodecLemmas.{codec, fixed_codec, followed, still_bytes, then_holds, then_is}
 use Rattle.sia_encoding.proofs.ItemLemmas.{list_codec}
-use Rattle.sia_types.specs.declared.update_proof.UpdateProof.{UpdateProof}
-use Rattle.sia_types.specs.declared.diff_proof.DiffProof.{DiffProof}
 use Rattle.sia_types.specs.UpdateProof.{IsUpdateProof, spelled_update_proof, update_proof_at}
 use Rattle.sia_types.specs.DiffProof.{IsDiffProof, spelled_diff_proof, diff_proof_at}
 use Rattle.sia_types.specs.Decoding.{Decodes, IsDecoded}

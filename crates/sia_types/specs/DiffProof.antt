@@ -2,7 +2,8 @@
 use Rattle.std.specs.Prelude.{ℕ, List, ◌++◌, Result, Ok}
 use Rattle.sia_encoding.specs.declared.fault.DecodeFault.{DecodeFault}
 use Rattle.sia_encoding.specs.Spelling.{spelled_list}
-use Rattle.sia_encoding.specs.Reading.{Spot, hash_at, list_at, ◌>>=◌}
+use Rattle.sia_encoding.specs.Answer.{◌>>=◌}
+use Rattle.sia_encoding.specs.Reading.{Spot, hash_at, list_at}
 use Rattle.sia_encoding.specs.Codec.{IsFixed, IsListOf, spelled_fixed}
 use Rattle.sia_types.specs.declared.diff_proof.DiffProof.{DiffProof}
 

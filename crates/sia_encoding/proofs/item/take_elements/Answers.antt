@@ -1,12 +1,14 @@
 use Rattle.std.proofs.Common.{◌∙◌}
 use Rattle.std.proofs.lemmas.Result.{err_from_is_err_and}
-use Rattle.sia_encoding.proofs.ElementLemmas.{element_missed, element_more, fault_handed_on}
+use Rattle.sia_encoding.proofs.ElementLemmas.{element_missed, element_more}
+use Rattle.sia_encoding.proofs.Answering.{handed_on}
+use Rattle.sia_encoding.specs.Reading.{fault_told}
 use Rattle.sia_encoding.proofs.item.take_elements.Goals as goal
 
 pub returns-in_err-take : goal.returns-in_err-take
 returns-in_err-take g c =
     let p = err_from_is_err_and c.from_residual.result c.from_residual.ensures.1 in
-    rw (p.1, p.2) (fault_handed_on (g.T.Item.reading c.loop.cursor) _ c.take.new.cursor c.take.new.cursor c.in_err-take.field-0.0 (λ e is. c.loop.invariant ∙ element_missed g.T.Item.reading c.loop.items c.args.count c.loop.counter c.loop.cursor e c.loop-test.true is) c.in_err-take.ensures.reading)
+    rw (p.1, p.2) (handed_on fault_told c.in_err-take.field-0.0 (g.T.Item.reading c.loop.cursor) _ (λ e is. c.loop.invariant ∙ element_missed g.T.Item.reading c.loop.items c.args.count c.loop.counter c.loop.cursor e c.loop-test.true is) c.in_err-take.ensures.reading)
 
 pub loop-preserved : goal.loop-preserved
 loop-preserved g c = rw c.in_ok-push.ensures.ok (c.loop.invariant ∙ element_more g.T.Item.reading c.loop.items c.in_ok-take.field-0 c.args.count c.loop.counter c.loop.cursor c.take.new.cursor c.loop-test.true c.in_ok-take.ensures.reading)
