@@ -13,8 +13,8 @@ module _ {E : Type 0} where
   numbered position (entry ∷ entries) = (position, entry) ∷ numbered (suc position) entries
 
   -- each of these entries stands in the list, at its position
-  abbrev pub Places : List E → List (ℕ × E) → Type 0
-  Places log own = (position : ℕ) (entry : E) → Contains own (position, entry) → slice_get log position ≡ Some entry
+  abbrev pub StandAt : List E → List (ℕ × E) → Type 0
+  StandAt log own = (position : ℕ) (entry : E) → Contains own (position, entry) → slice_get log position ≡ Some entry
 
   -- each entry of the list is among these, with its position
   abbrev pub Covers : List (ℕ × E) → List E → Type 0
@@ -29,10 +29,10 @@ module _ {E : Type 0} where
   IsEachOnce own = AllPairs (λ earlier later. earlier.0 ≢ later.0) own
 
   -- the value stands for a list that begins with what was seen, and these are all its entries, each once and at its position
-  pub record IsWhole {T : Type 0} (stands : T → List E → Type 0) (value : T) (seen : List E) (own : List (ℕ × E)) : Type 0 where
+  pub record OwnsAll {T : Type 0} (stands : T → List E → Type 0) (value : T) (seen : List E) (own : List (ℕ × E)) : Type 0 where
     pub log : List E
     pub stands_for : stands value log
     pub begins : StartsWith log seen
-    pub placed : Places log own
+    pub placed : StandAt log own
     pub covered : Covers own log
     pub once : IsEachOnce own

@@ -32,8 +32,8 @@ abbrev pub HasValue : Stage → Type 0
 HasValue stage = (drawn : ℕ) × (stage ≡ Inside drawn)
 
 -- the pass in this stage may put the first value in
-abbrev pub Opens : Stage → Type 0
-Opens stage = (drawn : ℕ) × (stage ≡ Opening drawn)
+abbrev pub IsOpening : Stage → Type 0
+IsOpening stage = (drawn : ℕ) × (stage ≡ Opening drawn)
 
 module _ {E : Type 0} where
   -- how many tickets a pass has out
@@ -75,21 +75,27 @@ module _ {E : Type 0} where
   -- the slot is out with the pass that is inside, or is empty before the first value is put in, or has a value that stands for the list
   abbrev pub IsSlot : {T : Type 0} → (T → List E → Type 0) → List E → List (View E) → Maybe (Option T) → Type 0
   IsSlot stands log views none = SomeIs HasValue views
-  IsSlot stands log views (some None) = SomeIs Opens views
-  IsSlot stands log views (some (Some value)) = stands value log × ((seat : ℕ) (view : View E) → get_elem? views seat ≡ some view → Opens view.stage → ⊥)
+  IsSlot stands log views (some None) = SomeIs IsOpening views
+  IsSlot stands log views (some (Some value)) = stands value log × ((seat : ℕ) (view : View E) → get_elem? views seat ≡ some view → IsOpening view.stage → ⊥)
 
--- what each step keeps of the table: the counted words, the slot, and what is known of each pass
+-- What each step keeps of the table. There is a list of entries, and each position has an owner, a seat; so many tickets
+-- were drawn and served, which the words show; and the slot is as the stages of the passes say.
 pub record Turning {T E : Type 0} (stands : T → List E → Type 0) (seats : ℕ) (table : State (Option T) (View E)) : Type 0 where
   pub log : List E
+  -- whose each position is
   pub owner : ℕ → ℕ
   pub drawn : ℕ
   pub served : ℕ
+  -- the slot, or nothing where a pass has it out
   pub home : Maybe (Option T)
   pub words : table.words ≡ drawn % 2 ^ 64 ∷ served % 2 ^ 64 ∷ []
   pub homes : table.homes ≡ home ∷ []
+  -- the tickets that are out are those between the two counts
   pub between : served + total out table.views ≡ drawn
+  -- no seat is lost, and they are few enough that words which are equal show one ticket
   pub few : total seats_of table.views ≡ seats
   pub most : seats ≤ 66
+  -- each owner is a seat
   pub within : (position : ℕ) (entry : E) → slice_get log position ≡ Some entry → owner position < length table.views
   pub known : (seat : ℕ) (view : View E) → get_elem? table.views seat ≡ some view → IsKnown log owner drawn served seat view
   pub apart : AreApart table.views

@@ -5,7 +5,7 @@ use Rattle.std.specs.Prelude.{◌≡◌, ◌≢◌, ℕ, ◌%◌, ◌^◌, ◌�
 use Rattle.atomic_table.specs.Table.{Me, Step}
 use Rattle.sia_turn.specs.declared.view.Stage.TheVariants.{Waiting}
 use Rattle.sia_turn.specs.declared.view.View.{View}
-use Rattle.sia_turn.specs.Entries.{StartsWith, Places, IsEachOnce}
+use Rattle.sia_turn.specs.Entries.{StartsWith, StandAt, IsEachOnce}
 use Rattle.sia_turn.specs.Views.{waiting, entered, gone}
 
 module _ {T E : Type 0} where
@@ -16,7 +16,7 @@ module _ {T E : Type 0} where
   -- the slot was taken with its value, which stands for a list that begins with what was seen and has the own entries at their positions
   abbrev pub Takes : (T → List E → Type 0) → ℕ → Me (Option T) (View E) → Me (Option T) (View E) → Type 0
   Takes stands ticket before after =
-      (value : T) × (log : List E) × (after ≡ (entered ticket log before.0, (0, Some value) ∷ before.1)) × stands value log × StartsWith log before.0.seen × Places log before.0.own
+      (value : T) × (log : List E) × (after ≡ (entered ticket log before.0, (0, Some value) ∷ before.1)) × stands value log × StartsWith log before.0.seen × StandAt log before.0.own
 
   -- where the number found is the ticket's the slot was taken, and else nothing changed
   abbrev pub Looks : (T → List E → Type 0) → Step (Option T) → Me (Option T) (View E) → ℕ → Me (Option T) (View E) → Type 0
@@ -27,8 +27,8 @@ module _ {T E : Type 0} where
   Begins step before found after = (ticket : ℕ) × (after ≡ (entered ticket before.0.seen before.0, (0, None) ∷ before.1))
 
   -- the slot was given back, with these entries added
-  abbrev pub Passes : List E → Step (Option T) → Me (Option T) (View E) → ℕ → Me (Option T) (View E) → Type 0
-  Passes added step before found after = (after.0 ≡ gone added before.0) × (after.1 ≡ [])
+  abbrev pub GivesBack : List E → Step (Option T) → Me (Option T) (View E) → ℕ → Me (Option T) (View E) → Type 0
+  GivesBack added step before found after = (after.0 ≡ gone added before.0) × (after.1 ≡ [])
 
   -- the longer seen list begins with the shorter, and no position of the own entries stands twice
   abbrev pub Meets : Step (Option T) → Me (Option T) (View E) → ℕ → Me (Option T) (View E) → Type 0
@@ -41,4 +41,4 @@ module _ {T E : Type 0} where
   -- the caller has the value, which stands for a list that begins with what was seen and has the own entries at their positions
   abbrev pub Enters : (T → List E → Type 0) → T → Me (Option T) (View E) → Me (Option T) (View E) → Type 0
   Enters stands value before after =
-      (ticket : ℕ) × (log : List E) × (after ≡ (entered ticket log before.0, (0, None) ∷ [])) × stands value log × StartsWith log before.0.seen × Places log before.0.own
+      (ticket : ℕ) × (log : List E) × (after ≡ (entered ticket log before.0, (0, None) ∷ [])) × stands value log × StartsWith log before.0.seen × StandAt log before.0.own
