@@ -1,0 +1,204 @@
+"""The names that this repository has: files, crates, items of the code, definitions, printed texts, and a few words of the
+kit. Whatever stands in backticks in a document has to be made of them."""
+
+import os
+import re
+from functools import cache
+from pathlib import Path
+
+from heads import TOP, crates, specs_of
+
+SKIPPED = {".git", "out", "__pycache__"}
+
+# Words of Rattle, of its kit and of std that documents may name.
+KIT_WORDS = set(
+    """requires ensures impl main ? Brand ghosts-leave_with std toml hex atomic_table Vec Mutex u64 u8 Ok Err Some None String
+    Option Result fsync fdatasync pwrite b2sum hashlib write!""".split()
+)
+
+# Commands of others, by their first words.
+COMMANDS = {
+    "rt": "ci check fmt tidy plant must-fail verdict version help lemma doc test try run lib all expand".split(),
+    "b2sum": ["-l", "256"],
+    "git": ["log", "diff"],
+}
+
+
+@cache
+def files():
+    """Every file of the repository but what is made."""
+    found = []
+    for folder, folders, names in os.walk(TOP):
+        folders[:] = sorted(set(folders) - SKIPPED)
+        found.extend(Path(folder) / name for name in sorted(names))
+    return found
+
+
+@cache
+def file_names():
+    """The files and folders, by each path that a document may write: from the top, from docs/, from crates/, from a crate,
+    or by the name alone."""
+    names = set()
+    for path in files():
+        parts = path.relative_to(TOP).parts
+        for end in range(1, len(parts) + 1):
+            for start in range(min(end, 3)):
+                if start == 0 or parts[0] in ("docs", "crates"):
+                    names.add("/".join(parts[start:end]))
+        names.add(path.name)
+    return names
+
+
+FUNCTION = re.compile(r"^ {4}(?:ghost |unsafe )*fn (\w+)|^ {4}ghost (\w+):", re.M)
+IMPL = re.compile(r"^impl\b[^{;]*?(\w+)(?:<[^{;]*>)?\s*\{\n(.*?)^\}", re.M | re.S)
+CLAUSE = re.compile(r"^\s+(?:ensures|requires) (\w+) \{", re.M)
+TYPE = re.compile(r"pub(?:\([a-z]+\))? (?:unsafe )?(?:struct|enum|trait|type) (\w+)")
+BLOCK = re.compile(r"^pub (?:unsafe )?(enum|trait) (\w+)[^{;]*\{\n(.*?)^\}", re.M | re.S)
+VARIANT = re.compile(r"^ {4}([A-Z]\w*)", re.M)
+PUBLIC = re.compile(r"^ *pub (?:const |unsafe |ghost )*(?:fn|struct|enum|trait|type|const|static|mod|macro) (\w+)", re.M)
+ANY = re.compile(r"^ *(?:pub(?:\([a-z]+\))? )?(?:const |unsafe |ghost )*(?:fn|struct|enum|trait|type|const|static|mod) (\w+)", re.M)
+TEXT = re.compile(r'"((?:[^"\\\n]|\\.)*)"')
+
+
+def sources(crate):
+    """The Rattle files of a crate."""
+    return sorted((crate.folder / "src").rglob("*.rt"))
+
+
+@cache
+def source_texts():
+    """The texts of the Rattle files, by crate."""
+    return {crate.name: [path.read_text() for path in sources(crate)] for crate in crates()}
+
+
+def types(crate):
+    """The types and traits that a library's definitions can cite, each with its file and line."""
+    for path in sources(crate) if crate.is_library else []:
+        for number, line in enumerate(path.read_text().splitlines(), 1):
+            if found := TYPE.match(line):
+                yield path, number, found[1]
+
+
+def members(text):
+    """The variants of a file's public enums, and the functions and ghost members of its public traits, each with its owner."""
+    for kind, owner, body in BLOCK.findall(text):
+        if kind == "enum":
+            yield from ((owner, name) for name in VARIANT.findall(body))
+        else:
+            yield from ((owner, name) for pair in FUNCTION.findall(body) for name in pair if name)
+    for owner, body in IMPL.findall(text):
+        yield from ((owner, name) for name in PUBLIC.findall(body))
+
+
+@cache
+def all_members():
+    """Each member of a public type or trait, with its owner."""
+    return {pair for texts in source_texts().values() for text in texts for pair in members(text)}
+
+
+@cache
+def public_items(name):
+    """The public items of a crate's code, with the members of its enums and traits, and its definitions."""
+    found = set()
+    for text in source_texts()[name]:
+        found.update(PUBLIC.findall(text))
+        found.update(name for _, name in members(text))
+    for crate in crates():
+        if crate.name == name:
+            found.update(one.name for specs in specs_of(crate) for one in specs.definitions)
+    return found
+
+
+@cache
+def clauses(name):
+    """The labels of a crate's clauses."""
+    return {label for text in source_texts()[name] for label in CLAUSE.findall(text)}
+
+
+@cache
+def all_items(name):
+    """Every item of a crate's code, public or not: what the head of that crate may name."""
+    return {item for text in source_texts()[name] for item in ANY.findall(text)} | public_items(name) | clauses(name)
+
+
+@cache
+def everywhere():
+    """The public items of all crates."""
+    return {item for crate in crates() for item in public_items(crate.name)}
+
+
+@cache
+def libraries():
+    """The crates, and the libraries of the kit that they stand on."""
+    return {name for crate in crates() for name in (crate.name, *crate.needs)}
+
+
+@cache
+def printed_words():
+    """The words of the texts in quotes, of code and definitions, and of the keys in them."""
+    words = set()
+    for crate in crates():
+        texts = source_texts()[crate.name] + [specs.path.read_text() for specs in specs_of(crate)]
+        for text in texts:
+            for quoted in TEXT.findall(text):
+                words.update(re.split(r"[\s.]+", quoted.replace("\\n", " ")))
+    return words - {""}
+
+
+def is_path(text):
+    return text.rstrip("/").removeprefix("./") in file_names()
+
+
+def is_item(text, crate=None):
+    """Whether a text names an item, as `name`, `Type::name` or `crate::name`; in a crate's own head also one that isn't public."""
+    parts = text.removesuffix("()").split("::")
+    if not all(re.fullmatch(r"[A-Za-z_◌>=&]['\w◌>=&]*", part) for part in parts):
+        return False
+    if parts[0] in source_texts():
+        found = public_items(parts.pop(0))
+    else:
+        found = everywhere() | (all_items(crate.name) if crate else set())
+    owned = all(pair in all_members() for pair in zip(parts, parts[1:]) if pair[0][0].isupper())
+    return owned and all(part in found for part in parts)
+
+
+def is_placeholder(word):
+    return re.fullmatch(r"[A-Z][A-Z_]*|\.\.|-{1,2}\w[\w-]*|[0-9a-f]*[0-9][0-9a-f]*|/tmp/\S*", word) is not None
+
+
+def is_printed(text):
+    """Whether a text is a command's or an answer's: each of its words is printed, is read, or stands for something."""
+    words = text.split()
+    return all(
+        word in printed_words() or is_placeholder(word) or is_item(word) or set(word.rstrip(":").split(".")) <= printed_words()
+        for word in words
+    )
+
+
+def is_command(text):
+    """Whether a text is a command line of ours or of a known program."""
+    first, *others = text.split()
+    if first in COMMANDS:
+        return not others or others[0] in COMMANDS[first]
+    is_ours = first in ("sia-v1", "./sia-v1", "sia_bench") or is_path(first)
+    return is_ours and all(is_path(word) or is_printed(word) for word in others)
+
+
+def is_formula(text):
+    """Whether a text is one of the formulas of docs/formats.md."""
+    return re.fullmatch(r'H(\(.*\))?|0x[0-9a-f]{2}|[0-9^ ·+−<≤*-]+', text) is not None
+
+
+def is_known(text, crate=None):
+    """Whether what stands in backticks exists, seen from a crate's head where one is given."""
+    return bool(
+        (crate is not None and (crate.folder / text).exists())
+        or text in libraries()
+        or text in KIT_WORDS
+        or re.fullmatch(r"rattle-kit-\d+[a-z]", text)
+        or is_path(text)
+        or is_item(text, crate)
+        or is_formula(text)
+        or is_command(text)
+        or is_printed(text)
+    )
