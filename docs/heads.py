@@ -73,13 +73,14 @@ class Section:
                 yield number, text
 
     def bullets(self):
-        """Each item of a list that begins with `- `, joined to one line."""
+        """Each item of a list that begins with `- `, joined to one line, with the number of its first line."""
         items = []
-        for _, text in self.lines:
+        for number, text in self.lines:
             if text.startswith("- "):
-                items.append(text[2:].strip())
+                items.append((number, text[2:].strip()))
             elif items and text:
-                items[-1] += f" {text.strip()}"
+                first, before = items[-1]
+                items[-1] = (first, f"{before} {text.strip()}")
         return items
 
     def words(self):
@@ -247,7 +248,7 @@ def promises_page():
         parts.append(f"## `{crate.name}`")
         parts.append(filled(without_links(opening[0] if opening else "")))
         bullets = sections.get(PROMISES, Section(1)).bullets()
-        parts.append("\n".join(filled(without_links(bullet), "- ", "  ") for bullet in bullets))
+        parts.append("\n".join(filled(without_links(bullet), "- ", "  ") for _, bullet in bullets))
         stands_on = " ".join(sections.get(STANDS_ON, Section(1)).paragraphs())
         parts.append(filled(f"Stands on: {without_links(stands_on)}"))
     return "\n\n".join(part for part in parts if part) + "\n"

@@ -151,7 +151,7 @@ def is_path(text):
 
 def is_item(text, crate=None):
     """Whether a text names an item, as `name`, `Type::name` or `crate::name`; in a crate's own head also one that isn't public."""
-    parts = text.removesuffix("()").split("::")
+    parts = re.sub(r"::<.*?>|\(\)$", "", text).split("::")
     if not all(re.fullmatch(r"[A-Za-z_◌>=&]['\w◌>=&]*", part) for part in parts):
         return False
     if parts[0] in source_texts():
