@@ -188,7 +188,7 @@ def opening_of(lines):
         if not line.startswith("--"):
             break
         texts.append(line[2:].strip())
-    return " ".join(texts)
+    return " ".join(" ".join(texts).split())
 
 
 @cache

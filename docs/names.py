@@ -12,7 +12,7 @@ SKIPPED = {".git", "out", "__pycache__"}
 
 # Words of Rattle, of its kit and of std that documents may name.
 KIT_WORDS = set(
-    """requires ensures impl main ? Brand ghosts-leave_with std toml hex atomic_table Vec Mutex u64 u8 Ok Err Some None String
+    """requires ensures impl main ? Brand AllocError ghosts-leave_with std toml hex atomic_table Vec Mutex u64 u8 Ok Err Some None String
     Option Result fsync fdatasync pwrite b2sum hashlib write!""".split()
 )
 
