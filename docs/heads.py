@@ -43,7 +43,7 @@ class Crate:
     @property
     def is_library(self):
         """Whether others can call it: a test crate and a program offer nothing."""
-        return self.root.name == "lib.rt" and re.search(r"^pub ", self.root.read_text(), re.M) is not None
+        return self.root.name == "lib.rt" and re.search(r"^pub ", text_of(self.root), re.M) is not None
 
 
 @dataclass
@@ -110,10 +110,16 @@ class Specs:
 
 
 @cache
+def text_of(path):
+    """The text of a file."""
+    return path.read_text()
+
+
+@cache
 def crates():
     """The crates, lowest first."""
     found = []
-    for number, line in enumerate((TOP / "crates.txt").read_text().splitlines(), 1):
+    for number, line in enumerate(text_of(TOP / "crates.txt").splitlines(), 1):
         before, colon, needs = line.partition("#")[0].partition(":")
         if colon:
             found.append(Crate(before.split()[0], tuple(needs.split()), number))
@@ -125,7 +131,7 @@ def head_of(crate):
     """The sections of a crate's head by their headings; that of no heading is the opening."""
     sections = {"": Section(1)}
     section = sections[""]
-    for number, line in enumerate(crate.root.read_text().splitlines(), 1):
+    for number, line in enumerate(text_of(crate.root).splitlines(), 1):
         if not line.startswith("//!"):
             break
         text = line[4:].rstrip()
@@ -198,7 +204,7 @@ def specs_of(crate):
     for path in sorted((crate.folder / "specs").rglob("*.antt")):
         if path.name == "Lib.antt":
             continue
-        lines = path.read_text().splitlines()
+        lines = text_of(path).splitlines()
         definitions = [
             Definition(defined[1], comment_above(lines, index), index + 1)
             for index, line in definition_lines(lines)

@@ -6,7 +6,7 @@ import re
 from functools import cache
 from pathlib import Path
 
-from heads import TOP, crates, specs_of
+from heads import TOP, crates, specs_of, text_of
 
 SKIPPED = {".git", "out", "__pycache__"}
 
@@ -68,13 +68,13 @@ def sources(crate):
 @cache
 def source_texts():
     """The texts of the Rattle files, by crate."""
-    return {crate.name: [path.read_text() for path in sources(crate)] for crate in crates()}
+    return {crate.name: [text_of(path) for path in sources(crate)] for crate in crates()}
 
 
 def types(crate):
     """The types and traits that a library's definitions can cite, each with its file and line."""
     for path in sources(crate) if crate.is_library else []:
-        for number, line in enumerate(path.read_text().splitlines(), 1):
+        for number, line in enumerate(text_of(path).splitlines(), 1):
             if found := TYPE.match(line):
                 yield path, number, found[1]
 
@@ -97,16 +97,20 @@ def all_members():
 
 
 @cache
-def public_items(name):
-    """The public items of a crate's code, with the members of its enums and traits, and its definitions."""
+def public_code(name):
+    """The public items of a crate's code, with the members of its enums and traits."""
     found = set()
     for text in source_texts()[name]:
         found.update(PUBLIC.findall(text))
-        found.update(name for _, name in members(text))
-    for crate in crates():
-        if crate.name == name:
-            found.update(one.name for specs in specs_of(crate) for one in specs.definitions)
+        found.update(member for _, member in members(text))
     return found
+
+
+@cache
+def public_items(name):
+    """The public items of a crate's code, and its definitions."""
+    files = [specs for crate in crates() if crate.name == name for specs in specs_of(crate)]
+    return public_code(name) | {one.name for specs in files for one in specs.definitions}
 
 
 @cache
@@ -138,7 +142,7 @@ def printed_words():
     """The words of the texts in quotes, of code and definitions, and of the keys in them."""
     words = set()
     for crate in crates():
-        texts = source_texts()[crate.name] + [specs.path.read_text() for specs in specs_of(crate)]
+        texts = source_texts()[crate.name] + [text_of(specs.path) for specs in specs_of(crate)]
         for text in texts:
             for quoted in TEXT.findall(text):
                 words.update(re.split(r"[\s.]+", quoted.replace("\\n", " ")))
@@ -151,15 +155,27 @@ def is_path(text):
 
 def is_item(text, crate=None):
     """Whether a text names an item, as `name`, `Type::name` or `crate::name`; in a crate's own head also one that isn't public."""
+    parts = path_of(text)
+    if parts and parts[0] in source_texts():
+        return is_among(parts[1:], public_items(parts[0]))
+    return is_among(parts, everywhere() | (all_items(crate.name) if crate else set()))
+
+
+def is_public_call(text, crate):
+    """Whether a text names a public item of a crate's code, by its path within the crate."""
+    return is_among(path_of(text), public_code(crate.name))
+
+
+def path_of(text):
+    """The parts of an item's path, or none where a text is no path."""
     parts = re.sub(r"::<.*?>|\(\)$", "", text).split("::")
-    if not all(re.fullmatch(r"[A-Za-z_◌>=&]['\w◌>=&]*", part) for part in parts):
-        return False
-    if parts[0] in source_texts():
-        found = public_items(parts.pop(0))
-    else:
-        found = everywhere() | (all_items(crate.name) if crate else set())
-    owned = all(pair in all_members() for pair in zip(parts, parts[1:]) if pair[0][0].isupper())
-    return owned and all(part in found for part in parts)
+    return parts if all(re.fullmatch(r"[A-Za-z_◌>=&]['\w◌>=&]*", part) for part in parts) else []
+
+
+def is_among(parts, items):
+    """Whether the parts of a path are among these items, and each one behind a type is a member of that type."""
+    is_owned = all(pair in all_members() for pair in zip(parts, parts[1:]) if pair[0][0].isupper())
+    return bool(parts) and is_owned and all(part in items for part in parts)
 
 
 def is_placeholder(word):
