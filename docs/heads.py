@@ -10,6 +10,9 @@ TOP = Path(__file__).resolve().parent.parent
 PRINTED = ("docs/promises.md", "docs/definitions.md")
 PROMISES, STANDS_ON = "Promises", "Stands on"
 
+# What a file of specs/ says that serves proofs alone: its definitions aren't printed.
+INNER = "No public clause speaks of"
+
 
 @dataclass
 class Fault:
@@ -53,16 +56,6 @@ class Section:
     line: int
     lines: list[tuple[int, str]] = field(default_factory=list)
 
-    def paragraphs(self):
-        """The paragraphs, each joined to one line, without the examples between fences."""
-        texts = [""]
-        for _, text in self.prose():
-            if text:
-                texts[-1] = f"{texts[-1]} {text}".strip()
-            else:
-                texts.append("")
-        return [text for text in texts if text]
-
     def prose(self):
         """The lines without the examples between fences."""
         is_example = False
@@ -82,6 +75,11 @@ class Section:
                 first, before = items[-1]
                 items[-1] = (first, f"{before} {text.strip()}")
         return items
+
+    def text(self):
+        """The section as it is, without examples and without the brackets that `rt doc` makes links of."""
+        text = "\n".join(line for _, line in self.prose())
+        return re.sub(r"\n{3,}", "\n\n", re.sub(r"\[(`[^`]*`)\](?!\()", r"\1", text)).strip()
 
     def words(self):
         return " ".join(text for _, text in self.lines)
@@ -146,7 +144,7 @@ def head_faults(crate):
     """What a crate's head lacks of the form that each head has."""
     sections = head_of(crate)
     opening = sections[""]
-    if not opening.paragraphs():
+    if not opening.text():
         yield Fault(crate.root, 1, "the head has no sentence that says what the crate is")
     if not crate.is_library:
         return
@@ -231,11 +229,6 @@ def filled(text, first="", later=""):
     )
 
 
-def without_links(text):
-    """A text of a head, whose names stand in brackets for `rt doc`, without these."""
-    return re.sub(r"\[(`[^`]*`)\](?!\()", r"\1", text)
-
-
 def promises_page():
     """docs/promises.md: what each crate promises, as its head says it."""
     parts = [
@@ -250,13 +243,11 @@ def promises_page():
         if not crate.is_library:
             continue
         sections = head_of(crate)
-        opening = sections[""].paragraphs()
         parts.append(f"## `{crate.name}`")
-        parts.append(filled(without_links(opening[0] if opening else "")))
-        bullets = sections.get(PROMISES, Section(1)).bullets()
-        parts.append("\n".join(filled(without_links(bullet), "- ", "  ") for _, bullet in bullets))
-        stands_on = " ".join(sections.get(STANDS_ON, Section(1)).paragraphs())
-        parts.append(filled(f"Stands on: {without_links(stands_on)}"))
+        for heading in ("", PROMISES):
+            parts.append(sections.get(heading, Section(1)).text())
+        needs = ", ".join(f"`{name}`" for name in crate.needs) or "std alone"
+        parts.append(filled(f"Stands on: {sections.get(STANDS_ON, Section(1)).text() or needs}"))
     return "\n\n".join(part for part in parts if part) + "\n"
 
 
@@ -266,7 +257,8 @@ def definitions_page():
         "# The definitions",
         filled(
             "Printed by `docs/print` from the comments in each crate's `specs/`, lowest crate first: every public definition,"
-            " in the words that stand above it, by file, with the public source that the file names."
+            " in the words that stand above it, by file, with the public source that the file names. Of a file that serves"
+            " proofs alone only the idea is told."
         ),
     ]
     for crate in crates():
@@ -277,7 +269,8 @@ def definitions_page():
             inside = specs.path.relative_to(crate.folder / "specs").with_suffix("")
             parts.append(f"### [{inside}](../{specs.path.relative_to(TOP)})")
             parts.append(filled(specs.opening))
-            parts.append("\n".join(filled(f"`{one.name}`: {one.comment}", "- ", "  ") for one in specs.definitions))
+            if INNER not in specs.opening:
+                parts.append("\n".join(filled(f"`{one.name}`: {one.comment}", "- ", "  ") for one in specs.definitions))
     return "\n\n".join(part for part in parts if part) + "\n"
 
 

@@ -201,8 +201,8 @@ def is_command(text):
 
 
 def is_formula(text):
-    """Whether a text is one of the formulas of docs/formats.md."""
-    return re.fullmatch(r'H(\(.*\))?|0x[0-9a-f]{2}|[0-9^ ·+−<≤*-]+', text) is not None
+    """Whether a text is a hash or a node of docs/formats.md and docs/trees.md, or made of numbers."""
+    return re.fullmatch(r"[HN]\(.*\)|H|0x[0-9a-f]{2}|[0-9a-f^ ·+-]*[0-9][0-9a-f^ ·+-]*", text) is not None
 
 
 def is_known(text, crate=None):
