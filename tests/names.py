@@ -10,10 +10,10 @@ from heads import TOP, crates, specs_of, text_of
 
 SKIPPED = {".git", "out", "__pycache__"}
 
-# Words of Rattle, of its kit and of std that documents may name.
+# Words of Rattle, of the C library and of other programs that documents may name, beside what our code imports from the kit.
 KIT_WORDS = set(
-    """requires ensures impl main ? Brand AllocError ghosts-leave_with std toml hex atomic_table Vec Mutex u64 u8 Ok Err Some None String
-    Option Result fsync fdatasync pwrite b2sum hashlib write!""".split()
+    """requires ensures impl main mut self ? std bool u8 u16 u32 u64 u128 usize Ok Err Some None Vec String Option Result Mutex Brand
+    prove write ghosts-leave_with fsync fdatasync pwrite b2sum hashlib""".split()
 )
 
 # Commands of others, by their first words.
@@ -57,6 +57,7 @@ BLOCK = re.compile(r"^pub (?:unsafe )?(enum|trait) (\w+)[^{;]*\{\n(.*?)^\}", re.
 VARIANT = re.compile(r"^ {4}([A-Z]\w*)", re.M)
 PUBLIC = re.compile(r"^ *pub (?:const |unsafe |ghost )*(?:fn|struct|enum|trait|type|const|static|mod|macro) (\w+)", re.M)
 ANY = re.compile(r"^ *(?:pub(?:\([a-z]+\))? )?(?:const |unsafe |ghost )*(?:fn|struct|enum|trait|type|const|static|mod) (\w+)", re.M)
+IMPORT = re.compile(r"^ *(?:ghost |pub )*use (?:Rattle\.)?(\w+)([^{;\n]*)(?:\{([^}]*)\})?", re.M)
 TEXT = re.compile(r'"((?:[^"\\\n]|\\.)*)"')
 
 
@@ -138,6 +139,18 @@ def libraries():
 
 
 @cache
+def imported():
+    """What our code and definitions import from std and from the kit's libraries."""
+    found, of_kit = set(), {"std"} | (libraries() - set(source_texts()))
+    for crate in crates():
+        for text in source_texts()[crate.name] + [text_of(specs.path) for specs in specs_of(crate)]:
+            for library, path, listed in IMPORT.findall(text):
+                if library in of_kit:
+                    found.update(re.findall(r"[^\s,.:]+", f"{path} {listed}"))
+    return found
+
+
+@cache
 def printed_words():
     """The words of the texts in quotes, of code and definitions, and of the keys in them."""
     words = set()
@@ -161,6 +174,14 @@ def is_item(text, crate=None):
     return is_among(parts, everywhere() | (all_items(crate.name) if crate else set()))
 
 
+def is_code(text, crate=None):
+    """Whether a text is a type, a call or a pattern that is made of items, of words of the kit and of type parameters."""
+    if not re.fullmatch(r"[\w:<>&\[\];, ()'!?.*=+-]+", text) or re.search(r"(?<!mut)(?<!impl)(?<!\W) \w", text):
+        return False
+    paths = re.findall(r"[A-Za-z_]\w*(?:::[A-Za-z_]\w*)*", text)
+    return bool(paths) and all(len(path) == 1 or path in KIT_WORDS | imported() or is_item(path, crate) for path in paths)
+
+
 def is_public_call(text, crate):
     """Whether a text names a public item of a crate's code, by its path within the crate."""
     return is_among(path_of(text), public_code(crate.name))
@@ -179,15 +200,14 @@ def is_among(parts, items):
 
 
 def is_placeholder(word):
-    return re.fullmatch(r"[A-Z][A-Z_]*|\.\.|-{1,2}\w[\w-]*|[0-9a-f]*[0-9][0-9a-f]*|/tmp/\S*", word) is not None
+    return re.fullmatch(r"[A-Z][A-Z_]*|\.\.|[0-9a-f]*[0-9][0-9a-f]*|/tmp/\S*", word) is not None
 
 
 def is_printed(text):
     """Whether a text is a command's or an answer's: each of its words is printed, is read, or stands for something."""
-    words = text.split()
-    return all(
-        word in printed_words() or is_placeholder(word) or is_item(word) or set(word.rstrip(":").split(".")) <= printed_words()
-        for word in words
+    words = [word for word in text.split() if not is_placeholder(word)]
+    return bool(words) and all(
+        word in printed_words() or is_item(word) or set(word.rstrip(":").split(".")) <= printed_words() for word in words
     )
 
 
@@ -197,12 +217,12 @@ def is_command(text):
     if first in COMMANDS:
         return not others or others[0] in COMMANDS[first]
     is_ours = first in ("sia-v1", "./sia-v1", "sia_bench") or is_path(first)
-    return is_ours and all(is_path(word) or is_printed(word) for word in others)
+    return is_ours and all(is_path(word) or is_placeholder(word) or is_printed(word) for word in others)
 
 
 def is_formula(text):
-    """Whether a text is a hash or a node of docs/formats.md and docs/trees.md, or made of numbers."""
-    return re.fullmatch(r"[HN]\(.*\)|H|0x[0-9a-f]{2}|[0-9a-f^ ·+-]*[0-9][0-9a-f^ ·+-]*", text) is not None
+    """Whether a text is a hash or a node of docs/formats.md and docs/trees.md, made of numbers, or an option."""
+    return re.fullmatch(r"--\w+|[HN]\(.*\)|H|0x[0-9a-f]{2}|[0-9a-f^ ·+-]*[0-9][0-9a-f^ ·+-]*", text) is not None
 
 
 def is_known(text, crate=None):
@@ -210,10 +230,11 @@ def is_known(text, crate=None):
     return bool(
         (crate is not None and (crate.folder / text).exists())
         or text in libraries()
-        or text in KIT_WORDS
+        or text in KIT_WORDS | imported()
         or re.fullmatch(r"rattle-kit-\d+[a-z]", text)
         or is_path(text)
         or is_item(text, crate)
+        or is_code(text, crate)
         or is_formula(text)
         or is_command(text)
         or is_printed(text)
