@@ -229,6 +229,11 @@ def filled(text, first="", later=""):
     )
 
 
+def index(some):
+    """A line of links to the sections of a page."""
+    return filled(" · ".join(f"[{crate.name}](#{crate.name})" for crate in some))
+
+
 def promises_page():
     """docs/promises.md: what each crate promises, as its head says it."""
     parts = [
@@ -238,6 +243,7 @@ def promises_page():
             " the public calls whose contracts carry it. Want of memory is the one answer that no clause ties to a cause;"
             " every other answer has its cause in a clause of the call that gives it."
         ),
+        index(crate for crate in crates() if crate.is_library),
     ]
     for crate in crates():
         if not crate.is_library:
@@ -260,6 +266,7 @@ def definitions_page():
             " in the words that stand above it, by file, with the public source that the file names. Of a file that serves"
             " proofs alone only the idea is told."
         ),
+        index(crate for crate in crates() if specs_of(crate)),
     ]
     for crate in crates():
         files = [specs for specs in specs_of(crate) if specs.definitions]
