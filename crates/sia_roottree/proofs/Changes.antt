@@ -3,7 +3,7 @@ use Rattle.std.proofs.Common.{◌≡◌, ℕ, zero, suc, ◌+◌, ◌*◌, ◌^�
 use Rattle.std.proofs.lemmas.List.{get_or_append_left}
 use Rattle.std.proofs.lemmas.Nat.{pow_pos}
 use Rattle.sia_merkle.specs.Segments.{segment_root}
-use Rattle.sia_roottree.specs.Kept.{kept_root, node_place, AreKept, AreKeptBeside}
+use Rattle.sia_roottree.specs.KeptNodes.{kept_root, node_place, AreKept, AreKeptBeside}
 use Rattle.sia_roottree.proofs.Halves.{segment_one, segment_front, segment_set_before, segment_set_behind}
 use Rattle.sia_roottree.proofs.NodePlaces.{place_within, place_beside}
 

@@ -3,7 +3,7 @@ use Rattle.std.proofs.Common.{◌≡◌, ◌≢◌, ◌⊎◌, ℕ, zero, suc, �
 use native.Mathlib.Nat.{pow-suc}
 use Rattle.std.proofs.lemmas.Nat.{pow_pos, shr_split, shr-shr, mod_below, pow-add}
 use Rattle.sia_merkle.proofs.Trees.{pow_up}
-use Rattle.sia_roottree.specs.Kept.{node_place}
+use Rattle.sia_roottree.specs.KeptNodes.{node_place}
 
 -- how two numbers stand
 pub le_or_more : (a b : ℕ) → (a ≤ b) ⊎ (b < a)

@@ -3,7 +3,7 @@ use Rattle.std.proofs.Common.{◌≡◌, ◌≢◌, ◌⊎◌, ℕ, zero, suc, �
 use native.Mathlib.Nat.{pow-suc}
 use Rattle.sia_merkle.specs.Roots.{node_digest}
 use Rattle.sia_merkle.specs.Segments.{segment_root}
-use Rattle.sia_roottree.specs.Kept.{kept_root, node_place, AreKept, AreKeptBeside}
+use Rattle.sia_roottree.specs.KeptNodes.{kept_root, node_place, AreKept, AreKeptBeside}
 use Rattle.sia_roottree.proofs.Changes.{kept_one}
 use Rattle.sia_roottree.proofs.Halves.{segment_split}
 use Rattle.sia_roottree.proofs.NodePlaces.{le_or_more, one_or_other, level_low, place_within, place_same, whole_below}

@@ -1,2 +1,2 @@
-pub mod Kept
-pub mod Views
+pub mod KeptNodes
+pub mod SeenTree

@@ -18,11 +18,11 @@
 //! - [`RootTree::push`], [`RootTree::set`] and [`RootTree::root`] hash at most 17 nodes each, and [`RootTree::swap`] at
 //!   most 34: so k changes and one root hash at most 34k + 17.
 //! - [`RootTree::reserve`] alone takes memory, and makes room for as many pushes as were asked for.
-//! - It is a `Nodes`: proofs of ranges and of diffs read its subtrees' roots, and none is hashed anew.
+//! - A [`RootTree`] is a `Nodes`: proofs of ranges and of diffs read its subtrees' roots, and none is hashed anew.
 //!
 //! # Stands on
 //!
-//! sia_merkle for the tree and its roots, sia_encoding for the count of steps.
+//! sia_merkle for the tree and its roots, sia_blake for the digest, sia_encoding for the count of steps and the limit.
 #![tactic(auto)]
 
 mod places;

@@ -1,13 +1,14 @@
 //! The root over hashes whose nodes are kept.
 ghost use Rattle.std.specs.Prelude.{◌≡◌, ◌+◌, ◌≤◌, length};
+ghost use Rattle.sia_encoding.specs.declared.limits.TheConstants.{CONTRACT_SECTORS};
 ghost use Rattle.sia_merkle.specs.Roots.{node_root_of};
 ghost use Rattle.sia_merkle.specs.Stacked.{over_rest};
-ghost use Rattle.sia_roottree.specs.Kept.{AreKept};
+ghost use Rattle.sia_roottree.specs.KeptNodes.{AreKept};
 
-use crate::places::{HEIGHT, kept, power};
+use crate::places::{TREE_HEIGHT, kept};
 use sia_blake::Hash;
 use sia_encoding::Steps;
-use sia_merkle::node_hash;
+use sia_merkle::{node_hash, power};
 use std::sync::ledger::Ledger;
 
 /// The root, joined from the right: each power of two in the number of hashes has one subtree. 32 zero bytes for none.
@@ -16,15 +17,15 @@ pub(crate) fn join_subtrees<L: Ledger>(
     nodes: &[Hash],
     steps: &mut Steps<L>,
 ) -> Hash
-    requires few { length hashes.now ≤ 65536 }
+    requires few { length hashes.now ≤ CONTRACT_SECTORS }
     requires nodes { length nodes.now ≡ length hashes.now }
     requires kept { AreKept hashes.now nodes.now }
     ensures root { result ≡ node_root_of hashes.now }
     ensures steps { steps.new ≤ steps.old + 17 }
 {
     let mut root: Option<Hash> = None;
-    for level in 0..HEIGHT + 1 {
-        let count = hashes.len() / power(level);
+    for level in 0..TREE_HEIGHT + 1 {
+        let count = hashes.len() / power(level) as usize;
         if count % 2 == 1 {
             let subtree = kept(hashes, nodes, level, count - 1);
             root = Some(over(&subtree, root, steps));

@@ -1,8 +1,9 @@
 //! The list of hashes, and its nodes.
 ghost use Rattle.std.specs.Prelude.{◌≡◌, ◌+◌, ◌-◌, ◌*◌, ◌^◌, ◌<◌, ◌≤◌, max, [], ◌∷◌, ◌++◌, length, take, slice_set, slice_index_or, vec_len, vec_capacity, OnOk, OnErr};
+ghost use Rattle.sia_encoding.specs.declared.limits.TheConstants.{CONTRACT_SECTORS};
 ghost use Rattle.sia_merkle.specs.Roots.{node_root_of};
-ghost use Rattle.sia_roottree.specs.Kept.{AreKept};
-ghost use Rattle.sia_roottree.specs.Views.{TreeView};
+ghost use Rattle.sia_roottree.specs.KeptNodes.{AreKept};
+ghost use Rattle.sia_roottree.specs.SeenTree.{TreeView};
 
 use crate::places::kept;
 use crate::raise::raise;
@@ -30,7 +31,7 @@ impl Model for RootTree {
 
     ghost view = { λ t. record { hashes = t.hashes.items; spare = t.spare } };
 
-    ghost invariant = { λ t. (vec_len t.nodes ≡ vec_len t.hashes) × (vec_len t.hashes + t.spare ≤ 65536) × (vec_len t.hashes + t.spare ≤ vec_capacity t.hashes) × (vec_len t.nodes + t.spare ≤ vec_capacity t.nodes) × AreKept t.hashes.items t.nodes.items };
+    ghost invariant = { λ t. (vec_len t.nodes ≡ vec_len t.hashes) × (vec_len t.hashes + t.spare ≤ CONTRACT_SECTORS) × (vec_len t.hashes + t.spare ≤ vec_capacity t.hashes) × (vec_len t.nodes + t.spare ≤ vec_capacity t.nodes) × AreKept t.hashes.items t.nodes.items };
 }
 
 impl RootTree {
@@ -47,7 +48,7 @@ impl RootTree {
 
     /// Makes room for so many more hashes. Its error is want of memory: the tree is as it was.
     pub fn reserve(&mut self, more: u64) -> Result<(), AllocError>
-        requires { length self.old.hashes + more ≤ 65536 }
+        requires { length self.old.hashes + more ≤ CONTRACT_SECTORS }
         ensures ok { OnOk result (self.new ≡ record { hashes = self.old.hashes; spare = max self.old.spare more }) }
         ensures err { OnErr result (self.new ≡ self.old) }
     {
@@ -62,6 +63,13 @@ impl RootTree {
         ensures { result ≡ length self.now.hashes }
     {
         self.hashes.len() as u64
+    }
+
+    /// For how many more hashes there is room.
+    pub fn spare(&self) -> u64
+        ensures { result ≡ self.now.spare }
+    {
+        self.spare
     }
 
     /// The hash at a place, counted from 0.
@@ -150,11 +158,7 @@ impl Nodes for RootTree {
     }
 
     fn node(&self, level: u32, index: u64) -> Hash {
-        kept(
-            self.hashes.as_slice(),
-            self.nodes.as_slice(),
-            level,
-            index as usize,
-        )
+        let index = index as usize;
+        kept(self.hashes.as_slice(), self.nodes.as_slice(), level, index)
     }
 }

@@ -1,5 +1,5 @@
 use Rattle.std.proofs.Common.{◌≡◌, ◌-◌, ℕ, suc, [], slice_index_or, arith, subst, refl, ap}
-use Rattle.sia_roottree.specs.Kept.{kept_root}
+use Rattle.sia_roottree.specs.KeptNodes.{kept_root}
 use Rattle.sia_roottree.proofs.places.kept.Goals as goal
 
 pub returns-then-level-eq0 : goal.returns-then-level-eq0

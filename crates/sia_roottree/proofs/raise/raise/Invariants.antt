@@ -1,6 +1,6 @@
 -- The nodes over the place are made up to this height.
 use Rattle.std.proofs.Common.{◌≡◌, ◌+◌, ◌≤◌, length}
-use Rattle.sia_roottree.specs.Kept.{AreKeptBeside}
+use Rattle.sia_roottree.specs.KeptNodes.{AreKeptBeside}
 use Rattle.sia_roottree.proofs.raise.raise.Given as goal
 
 abbrev pub invariant-loop-below : goal.invariant-loop-below

@@ -1,5 +1,5 @@
-use Rattle.std.proofs.Common.{◌≡◌, ◌-◌, ◌/◌, ◌^◌, ℕ, length, arith, ap, ◌∙◌}
-use Rattle.sia_roottree.proofs.Joining.{joined_odd, joined_even, joined_all, last_within}
+use Rattle.std.proofs.Common.{◌≡◌, ◌/◌, ◌^◌, ℕ, length, arith, ap, ◌∙◌}
+use Rattle.sia_roottree.proofs.Joining.{joined_odd, joined_even, joined_all}
 use Rattle.sia_roottree.proofs.root.join_subtrees.Goals as goal
 use Rattle.sia_roottree.proofs.root.join_subtrees.Goals.{then-count-eq1, else-count-eq1}
 
@@ -13,9 +13,8 @@ loop-level-preserved g c =
     record {
       joined = elim c.if-count-eq1.branch [
         | then-count-eq1 w ↦
-            let odd = w.if-count-eq1.true in
-            let made = w.kept-subtree.ensures ∙ c.requires.kept level (count - 1) (last_within (length hashes) count level is odd) in
-            rw (w.root-is, w.over.ensures.root) (joined_odd c.loop-level.root hashes w.kept-subtree.result level count (omega arith) is odd made so.joined)
+            rw (w.root-is, w.over.ensures.root)
+            (joined_odd c.loop-level.root hashes c.args.nodes.now w.kept-subtree.result level count c.requires.kept (omega arith) is w.if-count-eq1.true w.kept-subtree.ensures so.joined)
         | else-count-eq1 w ↦ rw w.root-is (joined_even c.loop-level.root hashes level count is (omega (arith, w.if-count-eq1.false)) so.joined)
       ];
       steps = elim c.if-count-eq1.branch [

@@ -1,6 +1,6 @@
 -- The nodes beside the place are kept.
 use Rattle.std.proofs.Common.{List, ℕ, sym, subst}
-use Rattle.sia_roottree.specs.Kept.{AreKeptBeside}
+use Rattle.sia_roottree.specs.KeptNodes.{AreKeptBeside}
 use Rattle.sia_roottree.proofs.Changes.{beside_set}
 use Rattle.sia_roottree.proofs.tree.RootTree.set.Goals as goal
 
