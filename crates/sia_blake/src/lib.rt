@@ -14,8 +14,6 @@ mod edges;
 mod four;
 mod hasher;
 mod state;
-#[cfg(test)]
-mod tests;
 
 use compression::{BLOCK_LEN, INITIAL_HASH, compress};
 use edges::{compress_last, digest_bytes};

@@ -34,5 +34,3 @@ pub use places::touched;
 pub use prove::prove_diff;
 pub use steps::DiffStep;
 
-#[cfg(test)]
-mod tests;

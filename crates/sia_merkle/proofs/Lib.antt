@@ -8,3 +8,4 @@ pub mod Raises
 mod Shapes
 pub mod Stacks
 pub mod Trees
+pub mod WholeGroups

@@ -19,6 +19,8 @@ mod groups;
 mod hashing;
 mod leaf_proof;
 mod nodes;
+mod noted;
+mod pieces;
 mod pushed;
 mod soundness;
 mod stack;
@@ -27,11 +29,7 @@ mod whole;
 pub use hashing::{leaf_hash, node, node_hash};
 pub use leaf_proof::{check_leaf, prove_leaf};
 pub use nodes::{Nodes, PlainNodes};
+pub use pieces::PieceStack;
 pub use soundness::another_leaf_collides;
 pub use stack::RootStack;
 pub use whole::{leaves, node_root, root, root_splits};
-
-#[cfg(test)]
-mod group_tests;
-#[cfg(test)]
-mod tests;

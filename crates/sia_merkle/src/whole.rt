@@ -3,6 +3,7 @@ ghost use Rattle.std.specs.Prelude.{◌≡◌, ◌*◌, ◌^◌, ◌<◌, ◌≤
 ghost use Rattle.sia_merkle.specs.Roots.{leaf_count, leaves_of, node_digest, node_root_of, root_of};
 
 use crate::groups::{GROUP, GROUP_LEN, group_root, leaf_group_root};
+use crate::pieces::PieceStack;
 use crate::stack::RootStack;
 use sia_blake::Hash;
 
@@ -22,7 +23,7 @@ pub(crate) fn power(exponent: u32) -> u64
 }
 
 /// The part of a byte string at a place, where each has so many bytes: that many, or what is left of them in the last one.
-fn part_of(bytes: &[u8], size: usize, place: usize) -> &[u8]
+pub(crate) fn part_of(bytes: &[u8], size: usize, place: usize) -> &[u8]
     requires { size * place ≤ length bytes.now }
     ensures { result.now ≡ take size (drop (size * place) bytes.now) }
 {
@@ -42,7 +43,7 @@ fn group_of(hashes: &[Hash], place: usize) -> &[Hash]
 }
 
 /// The root over leaves that are pushed one by one.
-pub(crate) fn root_by_leaf(bytes: &[u8]) -> Hash
+fn root_by_leaf(bytes: &[u8]) -> Hash
     ensures { result ≡ root_of (leaves_of bytes.now) }
 {
     let mut stack = RootStack::new();
@@ -53,7 +54,7 @@ pub(crate) fn root_by_leaf(bytes: &[u8]) -> Hash
 }
 
 /// The root over hashes that are pushed one by one.
-pub(crate) fn root_by_hash(hashes: &[Hash]) -> Hash
+fn root_by_hash(hashes: &[Hash]) -> Hash
     ensures { result ≡ node_root_of hashes.now }
 {
     let mut stack = RootStack::new();
@@ -64,7 +65,7 @@ pub(crate) fn root_by_hash(hashes: &[Hash]) -> Hash
 }
 
 /// The root over a group of leaves, of which the last group may lack some.
-fn leaf_part_root(bytes: &[u8]) -> Hash
+pub(crate) fn leaf_part_root(bytes: &[u8]) -> Hash
     ensures { result ≡ root_of (leaves_of bytes.now) }
 {
     if bytes.len() == GROUP_LEN {
@@ -85,17 +86,6 @@ fn part_root(hashes: &[Hash]) -> Hash
     }
 }
 
-/// The root over groups of leaves.
-fn root_by_leaf_group(bytes: &[u8]) -> Hash
-    ensures { result ≡ root_of (leaves_of bytes.now) }
-{
-    let mut stack = RootStack::new();
-    for place in 0..bytes.len().div_ceil(GROUP_LEN) {
-        stack.push_hash(&leaf_part_root(part_of(bytes, GROUP_LEN, place)));
-    }
-    stack.root()
-}
-
 /// The root over groups of hashes.
 fn root_by_group(hashes: &[Hash]) -> Hash
     ensures { result ≡ node_root_of hashes.now }
@@ -114,7 +104,7 @@ pub fn root(bytes: &[u8]) -> Hash
     if bytes.len() <= GROUP_LEN {
         leaf_part_root(bytes)
     } else {
-        root_by_leaf_group(bytes)
+        PieceStack::new().root(bytes)
     }
 }
 

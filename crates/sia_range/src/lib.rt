@@ -35,5 +35,3 @@ pub use laws::{
 pub use prove::{prove_nodes, prove_range, prove_update};
 pub use update::root_after_update;
 
-#[cfg(test)]
-mod tests;
