@@ -7,14 +7,9 @@ use Rattle.std.proofs.lemmas.List.{drop_more}
 use Rattle.std.proofs.lemmas.List.Elements.{filter-append}
 use Rattle.std.proofs.lemmas.List.Sums.{sum_by-append}
 use Rattle.sia_merkle.specs.Segments.{places_between}
-use Rattle.sia_range.proofs.Joins.{range_parts}
+use Rattle.sia_cover.proofs.Joins.{count_cons, range_parts}
 use Rattle.sia_diff.specs.declared.steps.DiffStep.{DiffStep}
 use Rattle.sia_diff.specs.Steps.{Turn, turns, count_after_step, step_touches, step_fits, touch_count}
-
-pub count_cons : {X : Type 0} (test : X → Bool) (x : X) (xs : List X) → count_by test (x ∷ xs) ≡ cond (test x) 1 0 + count_by test xs
-count_cons test x xs =
-    let one : 0 + cond (test x) 1 0 ≡ cond (test x) 1 0 = omega arith in
-    sum_by-append (λ y. cond (test y) 1 0) (x ∷ []) xs ∙ ap (λ n. n + count_by test xs) one
 
 pub touches_cons : (count : ℕ) (one : DiffStep) (steps : List DiffStep) (place : ℕ)
     → touch_count count (one ∷ steps) place ≡ cond (step_touches count one place) 1 0 + touch_count (count_after_step count one) steps place

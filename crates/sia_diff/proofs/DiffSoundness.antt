@@ -11,11 +11,10 @@ use Rattle.sia_merkle.specs.Computations.Tree.{Given}
 use Rattle.sia_merkle.specs.Roots.{first_hash, node_root_of}
 use Rattle.sia_merkle.specs.Segments.{cover, others, joined_within, Joins}
 use Rattle.sia_merkle.proofs.LeafSoundness.{AreSized, sized_told}
-use Rattle.sia_range.proofs.Joins.{hash_given}
-use Rattle.sia_range.proofs.OwnWholes.{own_joins, own_whole, own_roots}
-use Rattle.sia_range.proofs.RangeSoundness.{roots_sized}
-use Rattle.sia_range.proofs.SameCovers.{AgreeAt, AreWithin, cover_roots_same}
-use Rattle.sia_range.proofs.Soundness.{given_sized, given_shapes, joins_collide}
+use Rattle.sia_cover.proofs.Joins.{hash_given}
+use Rattle.sia_cover.proofs.OwnWholes.{own_joins, own_whole, own_roots}
+use Rattle.sia_cover.proofs.SameCovers.{AgreeAt, AreWithin, cover_roots_same}
+use Rattle.sia_cover.proofs.Soundness.{roots_sized, given_sized, given_shapes, joins_collide}
 use Rattle.sia_diff.specs.declared.steps.DiffStep.{DiffStep}
 use Rattle.sia_diff.specs.Diffs.{touched_or_new, hashes_at, old_tree, spread, moved, new_tree, IsDiffOf, own_leaves, own_nodes, IsOwnDiff}
 use Rattle.sia_diff.specs.Steps.{turns, after, count_after, is_touched, is_fit, step_fits, touch_count, touched_places}

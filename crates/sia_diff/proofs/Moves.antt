@@ -13,7 +13,8 @@ use Rattle.sia_diff.specs.declared.steps.DiffStep.{DiffStep}
 use Rattle.sia_diff.specs.declared.steps.DiffStep.TheVariants as step
 use Rattle.sia_diff.specs.Diffs.{hashes_at, spread}
 use Rattle.sia_diff.specs.Steps.{turns, after, after_step, count_after, count_after_step, step_touches, step_fits, touch_count}
-use Rattle.sia_diff.proofs.Below.{below_next, below_parts}
+use Rattle.sia_cover.proofs.Counts.{below_parts}
+use Rattle.sia_diff.proofs.Below.{below_next}
 use Rattle.sia_diff.proofs.Counts.{filter_not, filter_one, fits_cons, left_of_and, right_of_and, touches_cons}
 
 -- how long a list is after one step

@@ -20,8 +20,6 @@
 
 mod check;
 mod chosen;
-mod cover;
-mod join;
 mod laws;
 mod moving;
 mod places;

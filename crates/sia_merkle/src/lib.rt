@@ -32,4 +32,5 @@ pub use nodes::{Nodes, PlainNodes};
 pub use pieces::PieceStack;
 pub use soundness::another_leaf_collides;
 pub use stack::RootStack;
-pub use whole::{leaves, node_root, root, root_splits};
+pub use whole::{HEIGHT, leaves, node_root, power, root, root_splits};
+

@@ -14,8 +14,11 @@ pub fn leaves(size: u64) -> u64
     size.div_ceil(64)
 }
 
+/// The height that every tree of fewer than 2^64 hashes fits.
+pub const HEIGHT: u32 = 64;
+
 /// A power of two.
-pub(crate) fn power(exponent: u32) -> u64
+pub fn power(exponent: u32) -> u64
     requires { exponent < 64 }
     ensures { result ≡ 2 ^ exponent }
 {

@@ -8,5 +8,5 @@ use Rattle.sia_diff.proofs.moving.moved.Goals as goal
 
 pub do_steps-requires : goal.do_steps-requires
 do_steps-requires c =
-    let len : length c.in_ok-hashes.hashes.items ≡ c.args.chosen.now.count = ap length c.in_ok-hashes.ensures ∙ length_spread (is_chosen c.args.chosen.now.old c.args.chosen.now.touched.now) (range_with_len 0 c.args.chosen.now.count) c.args.leaves.now ∙ length-range_with_len 0 c.args.chosen.now.count in
+    let len : length c.in_ok-hashes.hashes.items ≡ c.args.count = ap length c.in_ok-hashes.ensures ∙ length_spread (is_chosen c.args.chosen.now.old c.args.chosen.now.touched.now) (range_with_len 0 c.args.count) c.args.leaves.now ∙ length-range_with_len 0 c.args.count in
     ap (λ n. list_all (λ turn. step_fits turn.count turn.step) (turns n c.args.steps.now)) len ∙ c.requires.fits
