@@ -13,7 +13,8 @@ SKIPPED = {".git", "out", "__pycache__"}
 # Words of Rattle, of the C library and of other programs that documents may name, beside what our code imports from the kit.
 KIT_WORDS = set(
     """requires ensures impl main mut self ? std bool u8 u16 u32 u64 u128 usize Ok Err Some None Vec String Option Result Mutex Brand
-    prove write ghosts-leave_with fsync fdatasync pwrite b2sum hashlib""".split()
+    prove write ghosts-leave_with fsync fdatasync pwrite b2sum hashlib merkletree merkletree.BuildRangeProof
+    merkletree.BuildDiffProof BuildRangeProof BuildDiffProof""".split()
 )
 
 # Commands of others, by their first words.

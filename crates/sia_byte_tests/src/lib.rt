@@ -3,10 +3,9 @@
 #![tactic(auto)]
 
 #[cfg(test)]
-mod bytes;
-
-#[cfg(test)]
 mod blake;
+#[cfg(test)]
+mod bytes;
 #[cfg(test)]
 mod diff;
 #[cfg(test)]

@@ -3,10 +3,9 @@ use Rattle.std.proofs.Common.{◌≡◌, ℕ, zero, suc, ◌+◌, ◌^◌, ◌<�
 use Rattle.std.specs.Prelude.{Bool, not, nat_le, ◌⊎◌}
 use Rattle.std.proofs.lemmas.Bool.{leb-true, leb-false, not-true}
 use Rattle.std.proofs.lemmas.List.{length-take-le}
-use Rattle.sia_merkle.specs.Computations.{Tree, hash_of, same_tree, Collides, HaveOneShape, IsSized}
+use Rattle.sia_merkle.specs.Computations.{AreSized, Tree, hash_of, same_tree, Collides, HaveOneShape, IsSized}
 use Rattle.sia_merkle.specs.Roots.{first_hash}
 use Rattle.sia_merkle.specs.Segments.{cover, cover_within, is_covered, others, joined_segments_within, JoinsSegments}
-use Rattle.sia_merkle.proofs.LeafSoundness.{AreSized}
 use Rattle.sia_cover.proofs.Covers.{cover_left, cover_one, cover_unchosen, covered_at}
 use Rattle.sia_cover.proofs.SegmentJoins.{other_covered, segments_inner, segments_outer, segments_low, segments_node}
 use Rattle.sia_cover.proofs.Soundness.{both_covers, take_sized, drop_sized, first_given_sized, from_parts, given_equal, given_shape, left_equal, no_elements, node_shape, node_sized, one_hash_each, one_or_collides, right_equal}

@@ -5,12 +5,12 @@ use Rattle.std.specs.Cmp.Lexicographic.{same_text}
 use Rattle.std.specs.List.{range_with_len}
 use Rattle.std.proofs.lemmas.Bool.{leb-true, leb-false, not-true}
 use Rattle.std.proofs.lemmas.List.{length-take-le, take-append-drop}
-use Rattle.sia_merkle.specs.Computations.{Tree, hash_of, same_tree, Collides, HaveOneShape, IsSized}
+use Rattle.sia_merkle.specs.Computations.{AreSized, Tree, hash_of, same_tree, Collides, HaveOneShape, IsSized}
 use Rattle.sia_merkle.specs.Computations.Tree.{Given, Leaf, Node}
 use Rattle.sia_merkle.specs.Roots.{first_hash}
 use Rattle.sia_merkle.specs.Segments.{Segment, segment_roots, cover, cover_within, is_covered, others, places_within, first_tree, joined_within, Joins}
 use Rattle.sia_merkle.proofs.Clashes.{clash_collides}
-use Rattle.sia_merkle.proofs.LeafSoundness.{AreSized, tree_root-length}
+use Rattle.sia_merkle.proofs.LeafSoundness.{tree_root-length}
 use Rattle.sia_merkle.proofs.Trees.{lt_pow}
 use Rattle.sia_cover.proofs.Covers.{cover_left, cover_none, cover_one, cover_parts, covered_at, covered_within, past_covered}
 use Rattle.sia_cover.proofs.Joins.{count_none, hash_given, join_chosen, join_given, join_low, join_node, places_low, places_one, places_parts, uncovered_chosen}

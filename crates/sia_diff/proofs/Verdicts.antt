@@ -13,7 +13,7 @@ use Rattle.sia_cover.proofs.SameCovers.{AreWithin, cover_same}
 use Rattle.sia_diff.specs.declared.steps.DiffStep.{DiffStep}
 use Rattle.sia_cover.specs.Joined.{JoinTo}
 use Rattle.sia_diff.specs.Diffs.{touched_or_new, hashes_at, old_tree, spread, moved, new_tree, IsDiffOf}
-use Rattle.sia_diff.specs.Steps.{turns, after, count_after, is_touched, step_fits, touch_count}
+use Rattle.sia_diff.specs.DiffSteps.{counted_steps, after, count_after, is_touched, step_fits, touch_count}
 use Rattle.sia_diff.proofs.Moves.{keeps_within, length_after, length_spread}
 
 -- what joins at the chosen places is a diff of its definition
@@ -64,7 +64,7 @@ new_cover first second count len steps first_is second_is is =
     ∙ sym (ap (λ (c : ℕ → Bool). length (cover (others c) len)) second_is ∙ ap (λ n. length (cover (others (touched_or_new count steps)) n)) is)
 
 -- how many hashes there are after the steps
-pub moved_count : (chosen : ℕ → Bool) (count : ℕ) (steps : List DiffStep) (leaves hashes : List (List ℕ)) → list_all (λ turn. step_fits turn.count turn.step) (turns count steps) ≡ true
+pub moved_count : (chosen : ℕ → Bool) (count : ℕ) (steps : List DiffStep) (leaves hashes : List (List ℕ)) → list_all (λ counted. step_fits counted.count counted.step) (counted_steps count steps) ≡ true
     → hashes ≡ after (spread chosen (range_with_len 0 count) leaves) steps → length hashes ≡ count_after count steps
 moved_count chosen count steps leaves hashes fits is =
     ap length is ∙ length_after (spread chosen (range_with_len 0 count) leaves) steps count (length_spread chosen (range_with_len 0 count) leaves ∙ length-range_with_len 0 count) fits

@@ -2,7 +2,7 @@
 ghost use Rattle.std.specs.Prelude.{◌≡◌, ◌↔◌, IfOk, IfSome, IsSome, IsTrue};
 ghost use Rattle.sia_merkle.specs.Computations.{hash_of};
 ghost use Rattle.sia_diff.specs.Diffs.{IsDiffOf, new_tree};
-ghost use Rattle.sia_diff.specs.Steps.{is_fit};
+ghost use Rattle.sia_diff.specs.DiffSteps.{is_fit};
 
 use crate::chosen::Chosen;
 use crate::moving::{hashes_chosen, moved};

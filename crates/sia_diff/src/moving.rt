@@ -5,7 +5,7 @@ ghost use Rattle.sia_merkle.specs.Roots.{first_hash};
 ghost use Rattle.sia_cover.specs.Joined.{count_below};
 ghost use Rattle.sia_diff.specs.Chosen.{is_chosen};
 ghost use Rattle.sia_diff.specs.Diffs.{hashes_at, spread};
-ghost use Rattle.sia_diff.specs.Steps.{after, after_step, step_fits, turns};
+ghost use Rattle.sia_diff.specs.DiffSteps.{after, after_step, step_fits, counted_steps};
 
 use crate::chosen::Chosen;
 use crate::steps::DiffStep;
@@ -23,7 +23,7 @@ pub(crate) fn moved(
     steps: &[DiffStep],
 ) -> Result<List<Hash>, AllocError>
     requires leaves { length leaves.now ≡ count_below (is_chosen chosen.now.old chosen.now.touched.now) count }
-    requires fits { IsTrue (list_all (λ turn. step_fits turn.count turn.step) (turns count steps.now)) }
+    requires fits { IsTrue (list_all (λ counted. step_fits counted.count counted.step) (counted_steps count steps.now)) }
     ensures { IfOk result (λ hashes. hashes ≡ after (spread (is_chosen chosen.now.old chosen.now.touched.now) (range_with_len 0 count) leaves.now) steps.now) }
 {
     let mut hashes = spread_out(alloc, chosen, count, leaves)?;
@@ -64,7 +64,7 @@ fn old_hash(chosen: &Chosen<'_>, count: u64, leaves: &[Hash], place: u64) -> Has
 
 /// Does all steps, in order.
 fn do_steps(hashes: &mut Vec<Hash>, steps: &[DiffStep]) -> Result<(), AllocError>
-    requires { IsTrue (list_all (λ turn. step_fits turn.count turn.step) (turns (length hashes.old.items) steps.now)) }
+    requires { IsTrue (list_all (λ counted. step_fits counted.count counted.step) (counted_steps (length hashes.old.items) steps.now)) }
     ensures { OnOk result (hashes.new.items ≡ after hashes.old.items steps.now) }
 {
     for step in steps {

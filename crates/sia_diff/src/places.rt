@@ -3,7 +3,7 @@ ghost use Rattle.std.specs.Prelude.{◌≡◌, ◌≤◌, IfOk, IsTrue, if◌the
 ghost use Rattle.std.specs.List.{range_with_len, list_all, filter};
 ghost use Rattle.sia_merkle.specs.Segments.{places_between};
 ghost use Rattle.sia_diff.specs.Marks.{AreCounted, AreCounts, HasCounts, is_counted, is_counted_once};
-ghost use Rattle.sia_diff.specs.Steps.{is_fit, step_fits, step_touches, touched_places, turns};
+ghost use Rattle.sia_diff.specs.DiffSteps.{is_fit, step_fits, step_touches, touched_places, counted_steps};
 
 use crate::steps::{DiffStep, MAX_COUNT};
 use sia_encoding::List;
@@ -44,10 +44,10 @@ pub(crate) fn touched_by_fit(
     places_counted(alloc, counts.as_slice())
 }
 
-/// Whether each step can be done at its turn.
+/// Whether each step can be done when it comes.
 fn each_fits(n: u64, steps: &[DiffStep]) -> bool
     requires { n ≤ 65536 }
-    ensures { result ≡ list_all (λ turn. step_fits turn.count turn.step) (turns n steps.now) }
+    ensures { result ≡ list_all (λ counted. step_fits counted.count counted.step) (counted_steps n steps.now) }
 {
     let mut count = n;
     for step in steps {
@@ -62,7 +62,7 @@ fn each_fits(n: u64, steps: &[DiffStep]) -> bool
 /// How often each place is touched, up to two.
 fn touch_counts(alloc: Global, n: u64, steps: &[DiffStep]) -> Result<List<u8>, AllocError>
     requires count { n ≤ 65536 }
-    requires fits { IsTrue (list_all (λ turn. step_fits turn.count turn.step) (turns n steps.now)) }
+    requires fits { IsTrue (list_all (λ counted. step_fits counted.count counted.step) (counted_steps n steps.now)) }
     ensures { IfOk result (λ counts. HasCounts counts n steps.now) }
 {
     let mut counts = vec![in alloc; 0u8; n as usize]?;
@@ -74,7 +74,7 @@ fn touch_counts(alloc: Global, n: u64, steps: &[DiffStep]) -> Result<List<u8>, A
 fn count_steps(counts: &mut [u8], steps: &[DiffStep])
     requires none { counts.old ≡ replicate (length counts.old) 0 }
     requires count { length counts.old ≤ 65536 }
-    requires fits { IsTrue (list_all (λ turn. step_fits turn.count turn.step) (turns (length counts.old) steps.now)) }
+    requires fits { IsTrue (list_all (λ counted. step_fits counted.count counted.step) (counted_steps (length counts.old) steps.now)) }
     ensures { HasCounts counts.new (length counts.old) steps.now }
 {
     let mut count = counts.len() as u64;

@@ -1,7 +1,7 @@
 //! Makes the proof of a diff: the old hashes at the touched places, and the roots of the subtrees that cover all others.
 ghost use Rattle.std.specs.Prelude.{◌≡◌, ◌<◌, [], ℕ, IfOk, IsTrue, length, map, slice_index, slice_index_or};
 ghost use Rattle.sia_diff.specs.Diffs.{own_leaves, own_nodes};
-ghost use Rattle.sia_diff.specs.Steps.{is_fit};
+ghost use Rattle.sia_diff.specs.DiffSteps.{is_fit};
 
 use crate::chosen::Chosen;
 use crate::places::touched_by_fit;

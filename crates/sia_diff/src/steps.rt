@@ -20,7 +20,7 @@ pub enum DiffStep {
 }
 
 impl DiffStep {
-    ghost use Rattle.sia_diff.specs.Steps.{count_after_step, step_fits};
+    ghost use Rattle.sia_diff.specs.DiffSteps.{count_after_step, step_fits};
 
     /// Whether the step can be done on a list of so many hashes.
     pub(crate) fn fits(&self, count: u64) -> bool

@@ -16,7 +16,7 @@ use Rattle.sia_cover.specs.Joined.{JoinTo, SegmentsJoinTo}
 use Rattle.sia_range.proofs.ByteLeaves.{front}
 use Rattle.sia_range.proofs.RangePlaces.{count_between}
 use Rattle.sia_cover.proofs.Covers.{cover_at, power_above}
-use Rattle.sia_cover.proofs.Joins.{ join_at, join_given, join_low, join_node, hash_of_node}
+use Rattle.sia_cover.proofs.Joins.{join_at, join_given, join_low, join_node, hash_of_node}
 
 pub joined_is : (count a b : ℕ) (inner : List Tree) (outer : List (List ℕ)) → range_tree count a b inner outer ≡ joined_within (places_between a b) count count 0 inner outer
 unfolding range_tree

@@ -33,4 +33,3 @@ pub use laws::{
 };
 pub use prove::{prove_nodes, prove_range, prove_update};
 pub use update::root_after_update;
-

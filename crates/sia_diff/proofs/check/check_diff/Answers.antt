@@ -4,7 +4,7 @@ use Rattle.sia_merkle.specs.Computations.Tree.{Given}
 use Rattle.sia_cover.specs.Joined.{count_below}
 use Rattle.sia_diff.specs.Chosen.{is_chosen}
 use Rattle.sia_diff.specs.Diffs.{hashes_at}
-use Rattle.sia_diff.specs.Steps.{count_after}
+use Rattle.sia_diff.specs.DiffSteps.{count_after}
 use Rattle.sia_diff.proofs.Fit.{fit_done}
 use Rattle.sia_diff.proofs.Listed.{are_places, chosen_is}
 use Rattle.sia_diff.proofs.Moves.{at_count}

@@ -1,7 +1,7 @@
 use Rattle.std.proofs.Common.{◌≡◌, ◌∙◌, length, sym, ap, refl, arith, true, false, Some}
 use Rattle.std.specs.List.{list_all, filter, range_with_len}
 use Rattle.sia_diff.specs.Marks.{is_counted, is_counted_once}
-use Rattle.sia_diff.specs.Steps.{is_alone, touched_places}
+use Rattle.sia_diff.specs.DiffSteps.{is_alone, touched_places}
 use Rattle.sia_diff.proofs.Fit.{too_many, not_done, alone_all, not_alone, places_same, too_touched, all_fit}
 use Rattle.sia_diff.proofs.places.touched.Goals as goal
 use Rattle.sia_diff.proofs.places.touched.Goals.{then-n-gt-MAX_COUNT-via-then-n-gt-MAX_COUNT, then-n-gt-MAX_COUNT-via-else-n-gt-MAX_COUNT+then-not-each_fits}

@@ -30,14 +30,14 @@ count_after count [] = count
 count_after count (one ∷ steps) = count_after (count_after_step count one) steps
 
 -- a step, and how many hashes there are before it
-pub record Turn : Type 0 where
+pub record CountedStep : Type 0 where
   pub count : ℕ
   pub step : DiffStep
 
--- each step with the count at its turn, where there are so many hashes before the first
-unfoldable pub turns : ℕ → List DiffStep → List Turn
-turns count [] = []
-turns count (one ∷ steps) = record { count = count; step = one } ∷ turns (count_after_step count one) steps
+-- each step with the count before it, where there are so many hashes before the first
+unfoldable pub counted_steps : ℕ → List DiffStep → List CountedStep
+counted_steps count [] = []
+counted_steps count (one ∷ steps) = record { count = count; step = one } ∷ counted_steps (count_after_step count one) steps
 
 -- whether a step names a place, or removes it
 abbrev pub step_touches : ℕ → DiffStep → ℕ → Bool
@@ -48,7 +48,7 @@ step_touches count (step.Set i hash) place = nat_eq place i
 
 -- how many of the steps name or remove a place
 unfoldable pub touch_count : ℕ → List DiffStep → ℕ → ℕ
-touch_count count steps place = count_by (λ turn. step_touches turn.count turn.step place) (turns count steps)
+touch_count count steps place = count_by (λ counted. step_touches counted.count counted.step place) (counted_steps count steps)
 
 -- whether one does
 unfoldable pub is_touched : ℕ → List DiffStep → ℕ → Bool
@@ -73,5 +73,5 @@ is_alone count steps one = true
 -- whether these steps are fit for so many hashes: at most 65,536 of them, at most 1,024 of their places touched
 unfoldable pub is_fit : ℕ → List DiffStep → Bool
 is_fit count steps =
-    nat_le count 65536 && list_all (λ turn. step_fits turn.count turn.step) (turns count steps) && list_all (is_alone count steps) steps
+    nat_le count 65536 && list_all (λ counted. step_fits counted.count counted.step) (counted_steps count steps) && list_all (is_alone count steps) steps
     && nat_le (length (touched_places count steps)) 1024
