@@ -1,0 +1,20 @@
+//! A file as pieces of which any k of n give it back, and the field of 256 elements that they are computed in.
+//!
+//! Reed and Solomon's code: J. S. Plank, 'A Tutorial on Reed-Solomon Coding for Fault-Tolerance in RAID-like Systems' (1997).
+//!
+//! ```
+//! let product = gf_mul(0x80, 2); // 0x1d
+//! ```
+//!
+//! # Promises
+//!
+//! - [`gf_mul`] is the product of two bytes as polynomials over two elements, modulo x^8 + x^4 + x^3 + x^2 + 1.
+//!
+//! # Stands on
+//!
+//! `sia_encoding`: lists and byte strings.
+#![tactic(auto)]
+
+mod field;
+
+pub use field::gf_mul;
