@@ -12,3 +12,5 @@ mod diff;
 mod merkle;
 #[cfg(test)]
 mod range;
+#[cfg(test)]
+mod roottree;

@@ -4,4 +4,5 @@ pub mod Founding
 pub mod HashLines
 pub mod Numbers
 pub mod Siafunds
+pub mod Soaked
 pub mod Tellings

@@ -23,8 +23,14 @@ root_files = record { config = None; input = Some 1 }
 unfoldable pub root_text : List ℕ → ℕ → ℕ → List ℕ
 root_text root leaves bytes = codes "root " ++ (encode_lower root ++ (codes " leaves " ++ (decimal leaves ++ (codes " bytes " ++ (decimal bytes ++ codes "\n")))))
 
--- the text that `root` prints of a file of at most 2^30 bytes
+-- the root of a file of at most 2^30 bytes, and how many bytes it has
+unfoldable pub root_found : List ℕ → Result (List ℕ × ℕ) Stop
+root_found file = do
+  bytes ← within (2 ^ 30) file
+  Ok (root_of (leaves_of bytes), length bytes)
+
+-- the text that `root` prints
 unfoldable pub root_outcome : List ℕ → Result (List ℕ) Stop
 root_outcome file = do
-  bytes ← within (2 ^ 30) file
-  Ok (root_text (root_of (leaves_of bytes)) (leaf_count (length bytes)) (length bytes))
+  found ← root_found file
+  Ok (root_text found.0 (leaf_count found.1) found.1)
