@@ -7,3 +7,4 @@ pub mod EventLog
 pub mod MemDisk
 pub mod OpenedFile
 pub mod FileDisk
+pub mod Filled

@@ -16,7 +16,8 @@
 //!   that stands at the greatest `u64` is taken as one that rose.
 //! - Where the bytes are told, a [`Source`] gives the bytes left in order, and says that it is at its end only there; a [`Sink`]
 //!   appends what it takes, and a failed write appends nothing. [`read_to_bound`] appends all that is left or says exactly that
-//!   there is more than the bound, and [`write_all`] writes the whole piece or a front part of it.
+//!   there is more than the bound, [`fill_from`] fills a buffer but where no more is left, and [`write_all`] writes the whole
+//!   piece or a front part of it.
 //! - After each call of a [`Disk`] the images that a crash may leave are among those of the model; after a sync that was done
 //!   there is one. The length is told always. [`read_whole`], [`read_into`] and [`read_onto`] give the bytes of a range, and
 //!   [`read_onto`] takes no memory where there is room.
@@ -45,6 +46,7 @@ mod event_log;
 mod fault_count;
 mod fault_plan;
 mod file_disk;
+mod fill;
 mod mem_disk;
 mod memory;
 mod opened_file;
@@ -57,6 +59,7 @@ pub use all::{Ending, WriteFailed, read_to_bound, write_all};
 pub use disk::{Did, Disk};
 pub use fault_plan::FaultPlan;
 pub use file_disk::{Disks, FileDisk};
+pub use fill::{ReadFailed, fill_from};
 pub use mem_disk::MemDisk;
 pub use memory::{MemSink, MemSource, SureSource};
 pub use opened_file::OpenedFile;

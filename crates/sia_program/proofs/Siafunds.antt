@@ -8,8 +8,8 @@ use Rattle.toml.specs.Data.{Data, Items, no_items, item, get, as_integer, as_str
 use Rattle.toml.specs.View.{view, items_view}
 use Rattle.toml.specs.declared.value.Value.{Value}
 use Rattle.toml.proofs.Views.{items_view-drop}
-use Rattle.sia_ledger.specs.declared.block.FundOutput.{FundOutput}
-use Rattle.sia_program.specs.Config.{between, hash_of, fund_output, siafund_of, siafund_sum, siafunds_of_items}
+use Rattle.sia_types.specs.declared.funds.FundOutput.{FundOutput}
+use Rattle.sia_program.specs.Config.{between, address_of, fund_output, siafund_of, siafund_sum, siafunds_of_items}
 
 -- the outputs that were read, and then those of the tables from index i on
 abbrev pub read_from : List FundOutput → List Value → ℕ → Option (List FundOutput)
@@ -39,7 +39,7 @@ between-bounds low high (Some (pos k)) n e = grind (arith, nat_tests)
 
 -- an entry has from 1 to 10,000 siafunds
 pub siafund_of-bounds : (d : Data) (fund : FundOutput) → siafund_of d ≡ Some fund → (1 ≤ fund.value) × (fund.value ≤ 10000)
-siafund_of-bounds d fund e = of_parts (option_and_then hash_of (option_and_then as_str (get (codes "to") d))) (option_and_then as_integer (get (codes "value") d)) e
+siafund_of-bounds d fund e = of_parts (option_and_then address_of (option_and_then as_str (get (codes "to") d))) (option_and_then as_integer (get (codes "value") d)) e
   where
     value_in : ℕ → Option FundOutput → ℕ
     value_in n None = n
