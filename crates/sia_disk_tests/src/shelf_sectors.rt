@@ -1,9 +1,9 @@
 //! What no clause says: that each call can succeed, and what a shelf leaves around a call of the disk that fails.
 ghost use Rattle.std.specs.Prelude.{◌≡◌, ◌∷◌, [], IfOk};
 
-use super::*;
 use sia_edge::MemDisk;
 use sia_encoding::{Blob, List};
+use sia_shelf::{Mark, Shelf, ShelfFault};
 use std::test::Fail;
 
 const SECTOR: usize = 64;
@@ -13,7 +13,7 @@ fn shelf(rt: &HostRuntime, fails: &[u64]) -> Result<Shelf<MemDisk>, Fail>
     ensures { IfOk result (λ shelf. (shelf.sector ≡ 64) × (shelf.marks ≡ Mark.Free ∷ Mark.Free ∷ Mark.Free ∷ [])) }
 {
     let fails = List::from_vec(fails.to_vec(rt.alloc())?);
-    let disk = MemDisk::new(rt.alloc(), Blob::new(rt.alloc()), fails)?;
+    let disk = MemDisk::new(Blob::new(rt.alloc()), fails);
     match Shelf::new(rt.alloc(), disk, SECTOR as u64, 3) {
         Ok(shelf) => Ok(shelf),
         Err((fault, _)) => Err(fault.into()),
@@ -43,6 +43,7 @@ fn a_fault_of_the_disk_stops_that_call_alone(rt: HostRuntime) -> Result<(), Fail
         assert_eq!(rt; fill(&mut shelf), filled);
         assert_eq!(rt; shelf.length(), length);
         let more = free.len() as u64;
+        assert_eq!(rt; shelf.free_count(), more);
         match shelf.find(rt.alloc(), more) {
             Ok(slots) => assert_eq!(rt; slots.as_slice(), free),
             Err(_) => assert!(rt; false),

@@ -3,9 +3,9 @@
 ghost use Rattle.std.specs.Prelude.{◌≡◌, ◌^◌, ◌≤◌, IfOk};
 ghost use Rattle.sia_journal.specs.Journal.{IsReady};
 
-use super::*;
 use sia_edge::{Disk, FileDisk, MemDisk};
 use sia_encoding::{Blob, List};
+use sia_journal::{FIRST_PLACE, Journal, JournalFault, RecordBuf};
 use std::alloc::Global;
 use std::test::Fail;
 use std::{fs, process};
@@ -20,7 +20,7 @@ const BC: &[u8] = b"\x01\x02\0\0\0\0\0\0\0bc";
 /// A disk with these bytes, of which the calls with these numbers fail.
 fn disk(alloc: Global, bytes: &[u8], fails: &[u64]) -> Result<MemDisk, Fail> {
     let fails = List::from_vec(fails.to_vec(alloc)?);
-    Ok(MemDisk::new(alloc, Blob::from_slice(alloc, bytes)?, fails)?)
+    Ok(MemDisk::new(Blob::from_slice(alloc, bytes)?, fails))
 }
 
 /// Each payload from the first one on, with a comma behind it.
@@ -29,7 +29,7 @@ fn read_all<D: Disk>(alloc: Global, journal: &mut Journal<D>) -> Result<Blob, Jo
 {
     let mut text = Blob::new(alloc);
     let mut out = Blob::new(alloc);
-    let mut place = 16;
+    let mut place = FIRST_PLACE;
     for _ in 0..9 {
         if !journal.read_next(alloc, &mut place, &mut out)? {
             break;
@@ -230,7 +230,7 @@ fn make(rt: &HostRuntime, name: &[u8]) -> Result<(), Fail> {
 
 #[test]
 fn a_file_is_a_journal_and_one_that_was_cut_is_damaged(rt: HostRuntime) -> Result<(), Fail> {
-    let name = format!(in rt.alloc(); "/tmp/sia_journal_{}", process::id(rt.process()))?;
+    let name = format!(in rt.alloc(); "/tmp/sia_disk_tests_journal_{}", process::id(rt.process()))?;
     make(&rt, name.as_bytes())?;
     let whole = fs::read(&rt, name.as_str())?;
     let file = [HEADER.as_slice(), A, BC, &[0]].concat(rt.alloc())?;
@@ -260,5 +260,26 @@ fn a_journal_of_many_records_opens(rt: HostRuntime) -> Result<(), Fail> {
     let disk = disk(rt.alloc(), file.as_slice(), &[])?;
     let text = listed(rt.alloc(), disk, 2_000_000)?;
     assert_eq!(rt; text.as_slice(), b"a,a,a,a,a,a,a,a,a,".as_slice());
+    Ok(())
+}
+
+/// The payloads stand one behind the other in the room that is there.
+#[test]
+fn records_are_read_onto_one_another(rt: HostRuntime) -> Result<(), Fail> {
+    let alloc = rt.alloc();
+    let file = [HEADER.as_slice(), A, BC, &[0]].concat(alloc)?;
+    match Journal::open(alloc, disk(alloc, file.as_slice(), &[])?, &HEADER, 99) {
+        Ok(mut journal) => {
+            assert!(rt; journal.length() == 38);
+            let mut place = FIRST_PLACE;
+            let mut out = Vec::with_capacity(alloc, 3)?;
+            assert_eq!(rt; journal.read_next_onto(&mut place, &mut out), Ok(true));
+            assert_eq!(rt; journal.read_next_onto(&mut place, &mut out), Ok(true));
+            assert_eq!(rt; journal.read_next_onto(&mut place, &mut out), Ok(false));
+            assert_eq!(rt; out.as_slice(), b"abc".as_slice());
+            assert!(rt; place == 37);
+        }
+        Err((fault, _)) => return Err(fault.into()),
+    }
     Ok(())
 }

@@ -1,13 +1,14 @@
 //! What no clause says: that the act can be done and which bytes it leaves, and what it leaves around a call of a disk that
 //! fails. The digests of the sectors are those of Python's hashlib.
 ghost use Rattle.std.specs.Prelude.{◌≡◌, ◌∷◌, [], IfOk};
+ghost use Rattle.sia_edge.specs.MemDisk.{standing_of};
 ghost use Rattle.sia_journal.specs.Journal.{IsReady};
 
-use super::*;
 use sia_edge::MemDisk;
 use sia_encoding::{Blob, List};
-use sia_journal::{Journal, JournalFault};
+use sia_journal::{FIRST_PLACE, Journal, JournalFault};
 use sia_shelf::{Mark, Shelf, ShelfFault};
+use sia_two_disks::{StoreFault, store};
 use std::test::Fail;
 
 const HEADER: [u8; 16] = *b"sia journal v1\0\0";
@@ -36,12 +37,12 @@ fn disk(rt: &HostRuntime, bytes: &[u8], fails: &[u64]) -> Result<MemDisk, Fail>
 {
     let bytes = Blob::from_slice(rt.alloc(), bytes)?;
     let fails = List::from_vec(fails.to_vec(rt.alloc())?);
-    Ok(MemDisk::new(rt.alloc(), bytes, fails)?)
+    Ok(MemDisk::new(bytes, fails))
 }
 
 /// The journal of a disk. On an empty disk it makes five calls.
 fn journal(rt: &HostRuntime, bytes: &[u8], fails: &[u64]) -> Result<Journal<MemDisk>, Fail>
-    ensures { IfOk result (λ journal. IsReady (λ disk. disk.bytes) journal) }
+    ensures { IfOk result (λ journal. IsReady standing_of journal) }
 {
     match Journal::open(rt.alloc(), disk(rt, bytes, fails)?, &HEADER, 4096) {
         Ok(journal) => Ok(journal),
@@ -82,7 +83,7 @@ fn stored(rt: &HostRuntime, journal_fails: &[u64], shelf_fails: &[u64]) -> Resul
 /// The first record of a file.
 fn first(rt: &HostRuntime, file: &[u8]) -> Result<Option<Blob>, Fail> {
     let mut journal = journal(rt, file, &[])?;
-    let mut place = 16;
+    let mut place = FIRST_PLACE;
     let mut out = Blob::new(rt.alloc());
     if journal.read_next(rt.alloc(), &mut place, &mut out)? {
         Ok(Some(out))
