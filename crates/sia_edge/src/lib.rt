@@ -1,8 +1,8 @@
 //! The outside: where bytes come from, where they go, and the disks that keep them.
 //!
-//! The model of a disk is that of POSIX's `pwrite`, `ftruncate` and `fsync` on one file, read so that a crash may leave as much
-//! as any file system leaves (specs/Disk.antt). The rest is POSIX's `read`, `write`, `pread`, `fstat`, `flock` and
-//! `posix_fadvise`, as std and libc have them.
+//! The model of a disk is that of POSIX's pwrite, ftruncate and fsync on one file, read so that a crash may leave as much
+//! as any file system leaves (specs/Disk.antt). The rest is POSIX's read, write, pread, fstat, flock and
+//! posix_fadvise, as std and libc have them.
 //!
 //! ```
 //! let mut disk = FileDisk::open(rt, b"journal");
@@ -28,15 +28,16 @@
 //!   a sync are done only where the file has the disk's own length.
 //! - After a call of a [`FileDisk`] has failed there is no file, the length stays, and each later call fails and counts, until
 //!   [`FileDisk::open`] is called again. [`FileDisk::empty`] is such a disk from the start.
-//! - Once a write or [`FileSink::finish`] of a [`FileSink`] is done, its file holds nothing of what it held before.
+//! - A [`FileSource`], a [`FileSink`] or a [`FileDisk`] without a file fails and counts in each call, [`FileSink::finish`] too.
 //!
-//! What no clause can say, as what the system does at [`FileDisk::open`] (it locks the file without waiting, syncs it and its
-//! folder, and drops the pages that the system keeps of it, on no descriptor of a standard stream), is tested over real files.
+//! What no clause can say is tested over real files: what the system does at [`FileDisk::open`] (it locks the file without
+//! waiting, syncs it and its folder, and drops the pages that the system keeps of it, on no descriptor of a standard stream),
+//! and that the file of a [`FileSink`] keeps what it held until the first write or [`FileSink::finish`], which syncs it.
 //! A crate above carries what its runs of disk calls leave by the lemmas of proofs/Runs.antt.
 //!
 //! # Stands on
 //!
-//! `sia_encoding` for byte strings and lists, and libc for `posix_fadvise`.
+//! `sia_encoding` for byte strings and lists, and the kit's `libc` for posix_fadvise.
 #![tactic(auto)]
 
 mod all;
