@@ -3,13 +3,14 @@
 #![tactic(auto)]
 
 #[cfg(test)]
-mod bytes;
-
-#[cfg(test)]
 mod blake;
+#[cfg(test)]
+mod bytes;
 #[cfg(test)]
 mod diff;
 #[cfg(test)]
 mod merkle;
 #[cfg(test)]
 mod range;
+#[cfg(test)]
+mod roottree;

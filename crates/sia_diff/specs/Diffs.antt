@@ -7,7 +7,7 @@ use Rattle.sia_merkle.specs.Computations.Tree.{Given}
 use Rattle.sia_merkle.specs.Roots.{first_hash, node_root_of}
 use Rattle.sia_merkle.specs.Segments.{cover, joined_within, others, segment_roots, Joins}
 use Rattle.sia_diff.specs.declared.steps.DiffStep.{DiffStep}
-use Rattle.sia_diff.specs.Steps.{after, count_after, is_touched, touched_places}
+use Rattle.sia_diff.specs.DiffSteps.{after, count_after, is_touched, touched_places}
 
 -- The places whose hashes are joined one by one: the old ones that are touched, and all from the old count on. The others
 -- are the untouched old places, which are there before and after the steps.

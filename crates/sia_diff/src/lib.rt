@@ -4,7 +4,7 @@
 //! A host that changes a list of hashes by steps proves the change to a renter that knows the list's root and count alone.
 //! The proof has the old hashes at the places that the steps name or remove, and the roots of the largest subtrees that
 //! hold no such place. With them the old root is computed, and then, with the hashes moved by the steps, the new one. What
-//! steps do and when they are fit stands in specs/Steps.antt, what a proof is in specs/Diffs.antt.
+//! steps do and when they are fit stands in specs/DiffSteps.antt, what a proof is in specs/Diffs.antt.
 //!
 //! It promises:
 //! - [`touched`] gives the old places that the steps touch exactly where the steps are fit: at most 65,536 hashes at any
@@ -20,8 +20,6 @@
 
 mod check;
 mod chosen;
-mod cover;
-mod join;
 mod laws;
 mod moving;
 mod places;
@@ -33,4 +31,3 @@ pub use laws::{another_diff_collides, own_diff_is_accepted};
 pub use places::touched;
 pub use prove::prove_diff;
 pub use steps::DiffStep;
-

@@ -6,7 +6,7 @@ use Rattle.std.proofs.lemmas.Bool.{leb-true, leb-false, ltb-true, ltb-false}
 use Rattle.std.proofs.lemmas.List.{get_or-take, get_or-drop, length-take-le}
 use Rattle.std.proofs.Math.Bool.{and-false, false-and}
 use native.Mathlib.Nat.{pow-suc}
-use Rattle.sia_merkle.specs.Computations.{Tree, hash_of, same_tree, Collides, HaveOneShape, IsSized}
+use Rattle.sia_merkle.specs.Computations.{Tree, hash_of, same_tree, AreSized, Collides, HaveOneShape, IsSized}
 use Rattle.sia_merkle.specs.Computations.Tree.{Given, Leaf, Node}
 use Rattle.sia_merkle.specs.Paths.{Side, sides, path_of, beside, climbed, cut_leaf, leaf_tree, own_leaf_tree, IsCorrect, hashes_beside, leaf_proof}
 use Rattle.sia_merkle.specs.Paths.Side.{Left, Right}
@@ -109,14 +109,15 @@ own_root below zero hashes place fits within is = top_only below hashes place fi
 own_root below (suc height) hashes place fits within is =
     whole_by below height hashes place fits within is (λ part at short inside same. own_root below height part at short inside same) (nat_le (length hashes) (2 ^ height)) (nat_lt place (2 ^ height)) refl refl
 
--- hashes of 32 bytes
-abbrev pub AreSized : List (List ℕ) → Type 0
-AreSized [] = Unit {0}
-AreSized (hash ∷ hashes) = (length hash ≡ 32) × AreSized hashes
-
+-- what is known of each hash of a slice
 pub sized_told : (hashes : List (List ℕ)) → ((i : ℕ) → i < length hashes → length (get_or hashes i []) ≡ 32) → AreSized hashes
 sized_told [] told = tt
 sized_told (hash ∷ hashes) told = (told 0 (omega arith), sized_told hashes (λ i within. told (suc i) (omega arith)))
+
+pub sized_at : (hashes : List (List ℕ)) → AreSized hashes → (i : ℕ) → i < length hashes → length (get_or hashes i []) ≡ 32
+sized_at [] sized i within = absurd (let none : i < 0 = within in omega arith)
+sized_at (hash ∷ hashes) sized zero within = sized.0
+sized_at (hash ∷ hashes) sized (suc i) within = sized_at hashes sized.1 i (omega arith)
 
 sized_digests : (leaves : List (List ℕ)) → AreSized (map leaf_digest leaves)
 sized_digests [] = tt

@@ -17,19 +17,21 @@
 
 mod groups;
 mod hashing;
+mod laws;
 mod leaf_proof;
 mod nodes;
 mod noted;
 mod pieces;
 mod pushed;
-mod soundness;
 mod stack;
 mod whole;
 
 pub use hashing::{leaf_hash, node, node_hash};
+pub use laws::{
+    another_leaf_collides, parts_have_the_root, path_goes_through_its_part, root_splits,
+};
 pub use leaf_proof::{check_leaf, prove_leaf};
 pub use nodes::{Nodes, PlainNodes};
 pub use pieces::PieceStack;
-pub use soundness::another_leaf_collides;
 pub use stack::RootStack;
-pub use whole::{leaves, node_root, root, root_splits};
+pub use whole::{HEIGHT, leaves, node_root, power, root};

@@ -4,18 +4,18 @@ use Rattle.std.proofs.Common.{◌≡◌, ℕ, ◌+◌, ◌-◌, ◌<◌, ◌≤�
 use Rattle.std.specs.Prelude.{Bool, nat_le, nat_lt, ◌⊎◌}
 use Rattle.std.proofs.lemmas.Bool.{leb-false, ltb-false}
 use Rattle.std.proofs.lemmas.List.{get_or-append_right, get_or_append_left, get_or-drop, get_or-take, length-map, length-take-le, map-append, take-map, drop-map, take_at, drop_at}
-use Rattle.sia_merkle.specs.Computations.{hash_of, Collides}
+use Rattle.sia_merkle.specs.Computations.{AreSized, hash_of, Collides}
 use Rattle.sia_merkle.specs.Computations.Tree.{Leaf}
 use Rattle.sia_merkle.specs.Roots.{leaf_count, leaf_digest, leaves_of, node_root_of, root_of}
 use Rattle.sia_merkle.specs.Segments.{cover, others, places_between, joined_segments_within, segment_root, JoinsSegments}
 use Rattle.sia_merkle.proofs.Cuts.{length-leaf_hashes, length-leaves}
-use Rattle.sia_merkle.proofs.LeafSoundness.{AreSized}
 use Rattle.sia_range.specs.Ranges.{range_tree, segments_tree, IsOwnUpdate, IsUpdateOf, own_update_tree, part_between, replaced, roots_inside, roots_outside}
-use Rattle.sia_range.proofs.OwnSegments.{own_segments_whole}
-use Rattle.sia_range.proofs.RangeSoundness.{digests_sized, roots_sized, own_leaves_root}
-use Rattle.sia_range.proofs.SameCovers.{AgreeAt, roots_same}
-use Rattle.sia_range.proofs.SegmentJoins.{segments_tree_is}
-use Rattle.sia_range.proofs.SegmentSoundness.{segments_collide}
+use Rattle.sia_cover.proofs.OwnSegments.{own_segments_whole}
+use Rattle.sia_range.proofs.RangeSoundness.{digests_sized, own_leaves_root}
+use Rattle.sia_cover.proofs.Soundness.{roots_sized}
+use Rattle.sia_cover.proofs.SameCovers.{AgreeAt, roots_same}
+use Rattle.sia_range.proofs.Judging.{segments_tree_is}
+use Rattle.sia_cover.proofs.SegmentSoundness.{segments_collide}
 
 -- a list with a part replaced
 pub replaced_length : {X : Type 0} (a b : ℕ) (part list : List X) → a ≤ b → b ≤ length list → length part ≡ b - a → length (replaced a b part list) ≡ length list

@@ -5,17 +5,6 @@ use Rattle.sia_merkle.specs.Computations.{Tree, hash_of}
 use Rattle.sia_merkle.specs.Computations.Tree.{Given, Leaf}
 use Rattle.sia_merkle.specs.Roots.{leaf_count, leaf_digest, leaves_of, root_of}
 use Rattle.sia_merkle.specs.Segments.{cover, others, places_between, joined_within, joined_segments_within, segment_roots, Joins, JoinsSegments}
-use Rattle.sia_range.specs.declared.places.Side.{Side}
-use Rattle.sia_range.specs.declared.places.Side.TheVariants as side
-
--- the places from a to b, or all others
-abbrev pub places_on : Side → ℕ → ℕ → ℕ → Bool
-places_on side.Inside a b = places_between a b
-places_on side.Outside a b = others (places_between a b)
-
-abbrev pub opposite : Side → Side
-opposite side.Inside = side.Outside
-opposite side.Outside = side.Inside
 
 -- the computation of a root from what stands at the places from a to b, and the roots of the cover of all others
 unfoldable pub range_tree : ℕ → ℕ → ℕ → List Tree → List (List ℕ) → Tree

@@ -19,11 +19,10 @@
 //! It stands on sia_merkle for the tree, on sia_encoding for lists, and on sia_types for the proof of an update.
 #![tactic(auto)]
 
+mod between;
 mod check;
-mod cover;
 mod laws;
 mod leaf_nodes;
-mod places;
 mod prove;
 mod update;
 
@@ -34,4 +33,3 @@ pub use laws::{
 };
 pub use prove::{prove_nodes, prove_range, prove_update};
 pub use update::root_after_update;
-
