@@ -29,7 +29,7 @@ mod scan;
 mod window;
 
 pub use fault::JournalFault;
-pub use journal::Journal;
+pub use journal::{FIRST_PLACE, Journal};
 pub use record::RecordBuf;
 
 #[cfg(test)]

@@ -25,7 +25,7 @@ fn disk(alloc: Global, bytes: &[u8], fails: &[u64]) -> Result<MemDisk, Fail> {
 
 /// Each payload from the first one on, with a comma behind it.
 fn read_all<D: Disk>(alloc: Global, journal: &mut Journal<D>) -> Result<Blob, JournalFault>
-    requires { IsReady D.seen journal.old }
+    requires { IsReady D.standing journal.old }
 {
     let mut text = Blob::new(alloc);
     let mut out = Blob::new(alloc);
@@ -57,7 +57,7 @@ fn append<D: Disk>(
     journal: &mut Journal<D>,
     payload: &[u8],
 ) -> Result<(), JournalFault>
-    requires { IsReady D.seen journal.old }
+    requires { IsReady D.standing journal.old }
 {
     journal.append(&RecordBuf::new(alloc, payload)?)
 }

@@ -18,10 +18,6 @@ pub record Has (sector slot : ℕ) (bytes image : List ℕ) : Type 0 where
   pub size : length bytes ≡ sector
   pub is : slot_of sector slot image ≡ bytes
 
--- in each image the slot holds these bytes
-abbrev pub InEach : ℕ → ℕ → List ℕ → (List ℕ → Type 0) → Type 0
-InEach sector slot bytes images = (image : List ℕ) → images image → Has sector slot bytes image
-
 -- what any other slot held, it holds still
 abbrev pub KeepsOthers : ℕ → ℕ → List ℕ → List ℕ → Type 0
 KeepsOthers sector slot old new = (other : ℕ) (bytes : List ℕ) → other ≢ slot → Has sector other bytes old → Has sector other bytes new

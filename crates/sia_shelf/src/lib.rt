@@ -12,7 +12,9 @@
 #![tactic(auto)]
 
 mod fault;
+pub mod laws;
 mod mark;
+mod marks;
 mod shelf;
 mod slot;
 
