@@ -28,6 +28,8 @@
 //! - After a call of a [`FileDisk`] has failed there is no file, the length stays, and each later call fails and counts, until
 //!   [`FileDisk::open`] is called again. [`FileDisk::empty`] is such a disk from the start.
 //! - Once a write or [`FileSink::finish`] of a [`FileSink`] is done, its file holds nothing of what it held before.
+//! - A [`SigCheck`] has one verdict of key, hash and signature, the same for every value of its type. A [`Signer`] has one key, and
+//!   signs as its type's relation of key, hash and signature allows; its one error is want of memory.
 //!
 //! What no clause can say, as what the system does at [`FileDisk::open`] (it locks the file without waiting, syncs it and its
 //! folder, and drops the pages that the system keeps of it, on no descriptor of a standard stream), is tested over real files.
@@ -51,6 +53,7 @@ mod memory;
 mod opened_file;
 mod opening;
 mod read_disk;
+mod signing;
 mod system;
 mod traits;
 
@@ -63,5 +66,6 @@ pub use mem_disk::MemDisk;
 pub use memory::{MemSink, MemSource, SureSource};
 pub use opened_file::OpenedFile;
 pub use read_disk::{ReadFault, read_into, read_onto, read_whole};
+pub use signing::{SigCheck, Signer};
 pub use system::{FileSink, FileSource, StdSink};
 pub use traits::{Got, Put, Sink, Source};
