@@ -1,4 +1,5 @@
--- What a spelling and a reading owe each other: each value has one spelling, and it is read back.
+-- What a spelling and a reading owe each other: each value has one spelling, and it is read back (siad's doc/Encoding.md).
+-- What is spelled and read, and the values that fit a limit, are one definition: a codec.
 use Rattle.std.specs.Prelude.{◌≡◌, ℕ, ◌+◌, ◌^◌, ◌<◌, ◌≤◌, ◌++◌, Bool, List, [], length, All, IfOk, Result, Ok}
 use Rattle.std.specs.Int.Digits.{digits_of}
 use Rattle.sia_encoding.specs.declared.fault.DecodeFault.{DecodeFault}
@@ -27,6 +28,16 @@ pub record IsCodec {A : Type 0} (Fits : ℕ → A → Type 0) (spelled : A → L
   pub read_back : (at limit : ℕ) (value : A) (rest : List ℕ) → Fits limit value → read (spot at (spelled value ++ rest) limit) ≡ Ok (value, spot (at + length (spelled value)) rest limit)
   -- no spelling is a proper prefix of another
   pub no_prefix : (limit : ℕ) (value other : A) (rest : List ℕ) → Fits limit value → Fits limit other → spelled value ≡ spelled other ++ rest → (value ≡ other) × (rest ≡ [])
+
+-- how the values of a type are spelled and read, and which of them fit a limit of lengths and counts
+pub record Codec (A : Type 0) : Type 1 where
+  pub fits : ℕ → A → Type 0
+  pub spelled : A → List ℕ
+  pub reading : Spot → Result (A × Spot) DecodeFault
+
+-- its reading gives back what its spelling writes
+abbrev pub Lawful : {A : Type 0} → Codec A → Type 0
+Lawful codec = IsCodec codec.fits codec.spelled codec.reading
 
 -- the values that fit
 

@@ -16,16 +16,20 @@
 //! It stands on std alone.
 #![tactic(auto)]
 
+mod behind;
 mod blob;
 mod cursor;
 mod fault;
 mod item;
+mod items;
 pub mod laws;
 pub mod limits;
 mod list;
+mod list_item;
 mod put;
 mod steps;
 
+pub use behind::Spelled;
 pub use blob::Blob;
 pub use cursor::Cursor;
 pub use fault::DecodeFault;
@@ -33,6 +37,3 @@ pub use item::Item;
 pub use list::List;
 pub use put::{put_bool, put_bytes, put_currency, put_fixed, put_u64};
 pub use steps::Steps;
-
-#[cfg(test)]
-mod tests;

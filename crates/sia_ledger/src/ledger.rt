@@ -6,22 +6,23 @@ ghost use Rattle.sia_encoding.specs.Answer.{Answers, unless};
 ghost use Rattle.sia_ledger.specs.Answers.{block_told, genesis_told};
 ghost use Rattle.sia_ledger.specs.Chain.{height, begun, extended, shortened};
 ghost use Rattle.sia_ledger.specs.Facts.{block_facts};
-ghost use Rattle.sia_ledger.specs.Identifiers.{block_id};
+ghost use Rattle.sia_ids.specs.Identifiers.{block_id};
 ghost use Rattle.sia_ledger.specs.Holdings.{tip, block_at, sums_of};
 ghost use Rattle.sia_ledger.specs.Refusal.{refusal, genesis_refusal};
 ghost use Rattle.sia_ledger.specs.Texts.{IsMadeTwice};
 
-use crate::block::{Block, FundOutput, Params};
 use crate::fact::Fact;
 use crate::fault::{BlockFault, GenesisFault, RevertFault};
-use crate::ids::id_of_genesis;
 use crate::judging::{Judged, check_params, judge};
 use crate::made::repeated_id;
 use crate::making::facts_of_genesis;
+use crate::params::{Params, know_sizes};
 use crate::parts::{drop_block, push_block};
 use crate::sums::{Sums, coin_sum, resting_sum};
 use sia_blake::Hash;
 use sia_encoding::{List, Steps};
+use sia_ids::genesis_id;
+use sia_types::{Block, FundOutput, Item};
 use std::alloc::Global;
 use std::marker::Model;
 use std::sync::ledger::Ledger as StepBook;
@@ -65,7 +66,7 @@ impl Ledger {
     {
         check_params(&params)?;
         let Params { maturity, funds } = params;
-        let id = id_of_genesis(alloc, funds.as_slice())?;
+        let id = genesis_id(alloc, funds.as_slice())?;
         let facts = facts_of_genesis(alloc, &id, funds.as_slice())?;
         let ids = List::from_slice(alloc, &[id])?;
         if repeated_id(&[], facts.as_slice()).is_some() {
@@ -190,7 +191,7 @@ impl Ledger {
         ensures few { length block.now.payouts < 2 ^ 64 }
         ensures twice { IfErr result (λ fault. (id : Sequence ℕ) → fault ≡ block_fault.SameId id → IsMadeTwice (extended self.now block.now) id) }
     {
-        block.sizes();
+        know_sizes(block);
         let _kept = &self.facts;
         self.judge_next(alloc, block)
     }

@@ -21,25 +21,19 @@
 #![tactic(auto)]
 
 mod amounts;
-mod block;
 mod fact;
 mod fault;
-mod ids;
 mod judging;
 mod ledger;
 mod made;
 mod making;
+mod params;
 mod parts;
-mod reading;
-mod spelling;
 mod sums;
 
-pub use block::{Block, CoinOutput, FundOutput, Params};
 pub use fact::{Fact, Made};
 pub use fault::{BlockFault, GenesisFault, RevertFault};
 pub use ledger::Ledger;
-pub use reading::take_block;
+pub use params::Params;
+pub use sia_types::{Block, CoinOutput, FundOutput};
 pub use sums::Sums;
-
-#[cfg(test)]
-mod tests;

@@ -8,7 +8,7 @@ use Rattle.toml.specs.Data.{Data, Items, no_items, item, get, as_integer, as_str
 use Rattle.toml.specs.View.{view, items_view}
 use Rattle.toml.specs.declared.value.Value.{Value}
 use Rattle.toml.proofs.Views.{items_view-drop}
-use Rattle.sia_ledger.specs.declared.block.FundOutput.{FundOutput}
+use Rattle.sia_types.specs.declared.funds.FundOutput.{FundOutput}
 use Rattle.sia_program.specs.Config.{between, address_of, fund_output, siafund_of, siafund_sum, siafunds_of_items}
 
 -- the outputs that were read, and then those of the tables from index i on

@@ -1,5 +1,5 @@
 -- How a command is answered, from how it ended and from what was told of it.
-use Rattle.std.proofs.Common.{◌≡◌, ℕ, List, Result, Ok, Err, ◌⊎◌, inl, inr, refl, sym, ◌∙◌, subst}
+use Rattle.std.proofs.Common.{◌≡◌, ℕ, List, Result, Ok, Err, ◌⊎◌, inl, inr, sym, ◌∙◌, subst}
 use Rattle.std.proofs.lemmas.Option.{IfSome_then}
 use Rattle.sia_program.specs.declared.form.Form.{Form}
 use Rattle.sia_program.specs.declared.stop.Stop.{Stop}

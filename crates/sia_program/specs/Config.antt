@@ -1,14 +1,14 @@
 -- The configuration: a TOML document (TOML 1.0, as the crate `toml` reads it), whose keys set the chain's
 -- parameters. Unknown keys are ignored, and an absent key has its default.
-use Rattle.std.specs.Prelude.{Bool, ℕ, ℤ, pos, List, [], ◌∷◌, codes, length, sum_by, nat_le, ◌==◌, ◌&&◌, if◌then◌else◌, Option, Some, None, option_map, option_and_then, Result, Ok, Err}
+use Rattle.std.specs.Prelude.{Bool, ℕ, ℤ, pos, List, [], ◌∷◌, codes, length, sum_by, nat_le, ◌==◌, ◌&&◌, if◌then◌else◌, Option, Some, None, option_map, option_and_then, Result, Ok}
 use Rattle.std.specs.Option.{ok_or}
 use Rattle.std.specs.Result.{result_ok}
 use Rattle.std.specs.Str.{is_utf8}
 use Rattle.hex.specs.Hex.{decode_sized}
 use Rattle.toml.specs.Data.{Data, table, Items, no_items, item, get, as_integer, as_str, as_array}
 use Rattle.toml.specs.Parse.{parse_document}
-use Rattle.sia_ledger.specs.declared.block.FundOutput.{FundOutput}
-use Rattle.sia_ledger.specs.declared.block.Params.{Params}
+use Rattle.sia_types.specs.declared.funds.FundOutput.{FundOutput}
+use Rattle.sia_ledger.specs.declared.params.Params.{Params}
 use Rattle.sia_encoding.specs.Answer.{◌>>=◌}
 use Rattle.sia_program.specs.declared.config.ConfigKey.TheVariants.{Maturity, Siafund}
 use Rattle.sia_program.specs.declared.config.ConfigFault.{ConfigFault}

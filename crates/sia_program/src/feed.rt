@@ -6,12 +6,10 @@ ghost use Rattle.sia_program.specs.Told.{refusal_told};
 ghost use Rattle.sia_program.specs.Feed.{with_one_payout as with_one_payout_of, block_record_at, record_at, records_of};
 
 use crate::stop::{Fault, Refusal};
-use sia_encoding::{Cursor, List};
-use sia_ledger::{Block, take_block};
+use sia_encoding::limits::BLOCK_BYTES;
+use sia_encoding::{Cursor, Item, List};
+use sia_types::Block;
 use std::alloc::Global;
-
-/// The greatest length and count in a feed.
-const LIMIT: u64 = 2_000_000;
 
 /// A record of a feed.
 #[derive(Drop)]
@@ -22,26 +20,20 @@ pub enum FeedRecord {
     Revert,
 }
 
-fn with_one_payout(block: Option<Block>) -> Result<Block, Fault>
+fn with_one_payout(block: Block) -> Result<Block, Fault>
     ensures { Answers (λ block. block) refusal_told result (with_one_payout_of block) }
 {
-    match block {
-        Some(block) => {
-            if block.payouts.len() == 1 {
-                Ok(block)
-            } else {
-                Err(Fault::Refused(Refusal::FeedForm))
-            }
-        }
-        None => Err(Fault::Refused(Refusal::FeedForm)),
+    if block.payouts.len() != 1 {
+        return Err(Fault::Refused(Refusal::FeedForm));
     }
+    Ok(block)
 }
 
 #[tactic(auto, unfolding(crate::specs::Feed::block_record_at))]
 fn take_block_record(alloc: Global, cursor: &mut Cursor) -> Result<FeedRecord, Fault>
     ensures { Answers (λ taken. (taken, cursor.new)) refusal_told result (block_record_at cursor.old) }
 {
-    let read = take_block(alloc, cursor)?;
+    let read = Block::take(alloc, cursor)?;
     let block = with_one_payout(read)?;
     Ok(FeedRecord::Apply(block))
 }
@@ -71,7 +63,7 @@ fn is_at_end(cursor: &Cursor) -> bool
 pub fn read_feed(alloc: Global, feed: &[u8]) -> Result<List<FeedRecord>, Fault>
     ensures { Answers (λ records. records) refusal_told result (records_of feed.now) }
 {
-    let mut cursor = Cursor::new(feed, LIMIT);
+    let mut cursor = Cursor::new(feed, BLOCK_BYTES);
     let mut records = List::new(alloc);
     for i in 0..feed.len() + 1 {
         if is_at_end(&cursor) {

@@ -1,21 +1,24 @@
-//! The records of Sia, each with its one spelling: `decode` reads one off the front of bytes, `encode` writes one, and
-//! `copy` gives an equal one.
-//!
-//! A record is spelled by its fields in order (siad's doc/Encoding.md). Its reading, its spelling and the law that they
-//! fit stand in `specs/` under the record's name.
-//!
-//! It stands on sia_encoding, and hands on its lists and byte strings.
+//! The records of Sia, each with its one spelling.
 #![tactic(auto)]
 
-mod decoding;
+mod block;
+mod coins;
+mod conditions;
 mod diff_proof;
+mod file_contracts;
+mod funds;
 pub mod laws;
+mod signature;
+mod transaction;
 mod update_proof;
 
-pub use decoding::decode;
+pub use block::Block;
+pub use coins::{CoinInput, CoinOutput};
+pub use conditions::{PublicKey, UnlockConditions};
 pub use diff_proof::DiffProof;
+pub use file_contracts::{FileContract, Revision, StorageProof};
+pub use funds::{FundInput, FundOutput};
 pub use sia_encoding::{Blob, DecodeFault, Item, List};
+pub use signature::{Covered, Signature};
+pub use transaction::Transaction;
 pub use update_proof::UpdateProof;
-
-#[cfg(test)]
-mod tests;

@@ -5,7 +5,7 @@ use Rattle.std.specs.Cmp.Lexicographic.{pointwise}
 use Rattle.hex.specs.Hex.{encode_lower}
 use Rattle.sia_encoding.specs.Answer.{◌>>=◌}
 use Rattle.sia_ledger.specs.declared.fault.BlockFault.{BlockFault}
-use Rattle.sia_ledger.specs.declared.block.Block.{Block}
+use Rattle.sia_types.specs.declared.block.Block.{Block}
 use Rattle.sia_ledger.specs.declared.sums.Sums.{Sums}
 use Rattle.sia_ledger.specs.Chain.{Chain, height, begun, extended, shortened}
 use Rattle.sia_ledger.specs.Holdings.{tip, sums_of}

@@ -1,9 +1,9 @@
 use Rattle.std.proofs.Common.{◌≡◌, List, [], ◌∷◌, ap, sym, ◌∙◌, subst}
 use Rattle.std.specs.Prelude.{ℕ, None}
 use Rattle.sia_encoding.proofs.Answering.{unless_ok}
-use Rattle.sia_ledger.specs.Identifiers.{genesis_id}
+use Rattle.sia_ids.specs.Identifiers.{genesis_id}
 use Rattle.sia_ledger.specs.Facts.{genesis_facts}
-use Rattle.sia_ledger.specs.Kept.{AreSized}
+use Rattle.sia_ids.specs.Identifiers.{AreSized}
 use Rattle.sia_ledger.specs.Refusal.{first_repeated}
 use Rattle.sia_ledger.proofs.Keeping.{kept_none}
 use Rattle.sia_ledger.proofs.Verdicts.{genesis-none, none_there}

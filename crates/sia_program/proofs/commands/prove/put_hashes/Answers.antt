@@ -1,4 +1,4 @@
-use Rattle.std.proofs.Common.{◌≡◌, ◌++◌, ◌∙◌, ap}
+use Rattle.std.proofs.Common.{◌∙◌, ap}
 use Rattle.std.specs.Prelude.{codes, string_bytes}
 use Rattle.sia_program.specs.Lines.{line}
 use Rattle.sia_program.proofs.HashLines.{lines_more, lines_over}

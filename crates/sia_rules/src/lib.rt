@@ -1,0 +1,26 @@
+//! The amounts that the rules of Sia's chain set: what blocks create.
+//!
+//! A block at a height h from 1 creates 300,000 - h siacoins, and never fewer than 30,000; a siacoin is 10^24 hastings
+//! (Sia whitepaper; siad's doc/Consensus.md and types/constants.go).
+//!
+//! ```
+//! use sia_rules::{COIN, subsidy};
+//! let first = subsidy(1);
+//! let siacoins = first / COIN; // 299,999
+//! ```
+//!
+//! # Promises
+//!
+//! - [`subsidy`] is exactly what the block at a height creates, in hastings. It takes no memory.
+//! - What all blocks create up to a height below 2^32 is less than 2^128 hastings, so a currency holds it
+//!   ([`laws::issue_fits`]).
+//!
+//! # Stands on
+//!
+//! std alone.
+#![tactic(auto)]
+
+mod amounts;
+pub mod laws;
+
+pub use amounts::{COIN, FUND_COUNT, subsidy};
