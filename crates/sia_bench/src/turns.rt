@@ -81,24 +81,6 @@ fn count_often<R: Wait>(rt: &R, turn: &Turn<Count>, pass: &mut Pass<Count>, turn
     }
 }
 
-// So many passes, which the first one splits off.
-fn split_all(
-    alloc: Global,
-    turn: &Turn<Count>,
-    first: &mut Pass<Count>,
-    threads: usize,
-) -> Result<Vec<Pass<Count>>, AllocError>
-    requires first { (first.old.turn ≡ turn.now.turn) × (first.old.inside ≡ false) }
-    requires room { first.old.rest ≡ threads }
-    ensures { IfOk result (λ passes. (vec_len passes ≡ threads) × All (IsWorker turn.now.turn) passes.items) }
-{
-    let mut passes = Vec::new(alloc);
-    for _ in 0..threads {
-        passes.push(turn.split(first))?;
-    }
-    Ok(passes)
-}
-
 /// How many nanoseconds so many threads take for so many turns each.
 pub(crate) fn turn_nanos<R: Threads + Wait + Sync + Clock>(
     rt: &R,
@@ -111,7 +93,7 @@ pub(crate) fn turn_nanos<R: Threads + Wait + Sync + Clock>(
     let Ok((turn, mut first)) = Turn::new::<Nothing>(alloc, Count { times: 0 }, seats) else {
         return Err(AllocError.into());
     };
-    let mut passes = split_all(alloc, &turn, &mut first, threads)?;
+    let mut passes = turn.split_all(alloc, &mut first, threads)?;
     let start = Instant::now(rt)?;
     for_each_mut(
         rt,

@@ -14,3 +14,5 @@ mod encoding;
 mod merkle;
 #[cfg(test)]
 mod range;
+#[cfg(test)]
+mod roottree;

@@ -5,3 +5,4 @@ pub mod Fillings
 pub mod Filling
 pub mod Tears
 pub mod MemImages
+pub mod Pieces

@@ -4,6 +4,7 @@ pub mod Climbs
 pub mod Cuts
 pub mod Fours
 pub mod LeafSoundness
+pub mod Parts
 pub mod Raises
 mod Shapes
 pub mod Stacks
