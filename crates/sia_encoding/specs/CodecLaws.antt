@@ -13,21 +13,26 @@ use Rattle.sia_encoding.specs.Codec.{AreBytes, spot, IsSpelled, IsCodec, IsFixed
 
 -- a reading in steps
 
+-- what holds of a value where a test that gives a fault fails
 pub else_holds : {A : Type 0} (b : Bool) (e : DecodeFault) (r : Result A DecodeFault) (P : A → Type 0) → (b ≡ false → IfOk r P) → IfOk (if b then Err e else r) P
 else_holds true e r P holds = tt
 else_holds false e r P holds = holds refl
 
+-- what holds of the value of two readings, the second behind the first
 pub then_holds : {A B : Type 0} (r : Result A DecodeFault) (next : A → Result B DecodeFault) (P : A → Type 0) (Q : B → Type 0) → IfOk r P → ((x : A) → P x → IfOk (next x) Q) → IfOk (r >>= next) Q
 then_holds (Ok x) next P Q first holds = holds x first
 then_holds (Err e) next P Q first holds = tt
 
+-- what holds of a value, and so something weaker
 pub weaker : {A : Type 0} (r : Result A DecodeFault) (P Q : A → Type 0) → ((x : A) → P x → Q x) → IfOk r P → IfOk r Q
 weaker (Ok x) P Q so holds = so x holds
 weaker (Err e) P Q so holds = tt
 
+-- a test that gives a fault fails
 pub else_is : {A : Type 0} (b : Bool) (e : DecodeFault) (r : Result A DecodeFault) → b ≡ false → (if b then Err e else r) ≡ r
 else_is b e r is = ap (λ b. if b then Err e else r) is
 
+-- two readings that give their values
 pub then_is : {A B : Type 0} (r : Result A DecodeFault) (next : A → Result B DecodeFault) (x : A) (y : Result B DecodeFault) → r ≡ Ok x → next x ≡ y → (r >>= next) ≡ y
 then_is r next x y first second = ap (λ r. r >>= next) first ∙ second
 
@@ -51,12 +56,14 @@ codec Fits spelled read so back = record {
 
 -- two items behind each other
 
+-- bytes behind bytes are bytes, and the spot is behind both
 pub followed : (s t u : Spot) (xs ys : List ℕ) → s.left ≡ xs ++ t.left → t ≡ past (length xs) s → t.left ≡ ys ++ u.left → u ≡ past (length ys) t → (s.left ≡ (xs ++ ys) ++ u.left) × (u ≡ past (length (xs ++ ys)) s)
 followed s t u xs ys front first back second = (
   front ∙ ap (λ rest. xs ++ rest) back ∙ sym (append_assoc xs ys u.left),
   second ∙ ap (past (length ys)) first ∙ (let sums : length xs + length ys ≡ length (xs ++ ys) = sym (length-append xs ys) in rw (← sums, drop-drop (length ys) (length xs) s.left, add_assoc s.at (length xs) (length ys)) refl),
 )
 
+-- what is left of bytes is bytes
 pub still_bytes : (s t : Spot) (n : ℕ) → t ≡ past n s → AreBytes s.left → AreBytes t.left
 still_bytes s t n behind bytes = let P : Spot → Type 0 = λ u. AreBytes u.left in subst P (sym behind) (All-drop (λ byte. byte < 256) n s.left bytes)
 
@@ -81,6 +88,7 @@ fixed_law n = codec (IsFixed n) spelled_fixed (fixed_at n) so back
 
 -- an item that is read and then judged
 
+-- an item that is read and then judged is lawful where the judgement keeps its spelling
 pub judged_codec : {A B : Type 0} {Fits : ℕ → A → Type 0} {spelled : A → List ℕ} {read : Spot → Result (A × Spot) DecodeFault} (Fits' : ℕ → B → Type 0) (spelled' : B → List ℕ) (judge : Spot → A × Spot → Result (B × Spot) DecodeFault) → IsCodec Fits spelled read → ((from to : Spot) (a : A) → Fits from.limit a → IfOk (judge from (a, to)) (λ taken. Fits' from.limit taken.0 × (spelled' taken.0 ≡ spelled a) × (taken.1 ≡ to))) → ((limit : ℕ) (b : B) → Fits' limit b → (a : A) × Fits limit a × (spelled a ≡ spelled' b) × ((from to : Spot) → from.limit ≡ limit → judge from (a, to) ≡ Ok (b, to))) → IsCodec Fits' spelled' (λ from. read from >>= judge from)
 judged_codec {A} {B} {Fits} {spelled} {read} Fits' spelled' judge first there back = codec Fits' spelled' (λ from. read from >>= judge from) so again
   where
@@ -101,6 +109,7 @@ judged_codec {A} {B} {Fits} {spelled} {read} Fits' spelled' judge first there ba
 
 -- a length or count, and a content of so many
 
+-- a count and a content of so many is lawful where both are
 pub counted_codec : {A : Type 0} {Fits : ℕ → ℕ → Type 0} {count_at : Spot → Result (ℕ × Spot) DecodeFault} (size : A → ℕ) (Content : ℕ → A → Type 0) (spelled : A → List ℕ) (content_at : ℕ → Spot → Result (A × Spot) DecodeFault) → IsCodec Fits spelled_u64 count_at → ((n : ℕ) → IsCodec (λ limit value. (size value ≡ n) × Content limit value) spelled (content_at n)) → IsCodec (λ limit value. Fits limit (size value) × Content limit value) (λ value. spelled_u64 (size value) ++ spelled value) (λ from. count_at from >>= (λ count. content_at count.0 count.1))
 counted_codec {A} {Fits} {count_at} size Content spelled content_at count content = codec (λ limit value. Fits limit (size value) × Content limit value) (λ value. spelled_u64 (size value) ++ spelled value) (λ from. count_at from >>= (λ count. content_at count.0 count.1)) so back
   where

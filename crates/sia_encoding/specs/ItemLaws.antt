@@ -54,12 +54,14 @@ number_law = judged_codec IsU64 spelled_u64 (λ from item. Ok (from_le_bytes w64
     (λ from to bytes fits. (eight_bytes_fit bytes fits.1, le_bytes_8 bytes (from_le_bytes w64 bytes) fits.0 (byte_at bytes fits.1) refl, refl))
     (λ limit n fits. (to_le_bytes w64 n, (refl, are_le_bytes n), refl, λ from to same. ap (λ m. Ok (m, to)) (from_le_bytes-to_le_bytes_8 n fits)))
 
+-- a count or a length
 pub count_law : IsCodec IsCount spelled_u64 count_at
 unfolding count_at
 count_law = judged_codec IsCount spelled_u64 _ number_law
     (λ from to n fits. else_holds (nat_lt from.limit n) _ _ _ (λ within. ((ltb-false _ _ within, fits), refl, refl)))
     (λ limit n fits. (n, fits.1, refl, λ from to same. else_is _ _ _ (le-ltb _ _ (omega (arith, same, fits.0)))))
 
+-- a byte string
 pub byte_string_law : IsCodec IsByteString spelled_bytes bytes_at
 unfolding spelled_bytes bytes_at
 byte_string_law = counted_codec length (λ limit bytes. AreBytes bytes) spelled_fixed fixed_at count_law fixed_law
@@ -83,6 +85,7 @@ digits_codec = counted_codec length (λ limit bytes. AreBytes bytes) spelled_fix
 
 -- a bool
 
+-- what holds of a value that a test chooses
 pub chosen : {A : Type 0} (b : Bool) (x : A) (r : Result A DecodeFault) (P : A → Type 0) → (b ≡ true → P x) → (b ≡ false → IfOk r P) → IfOk (if b then Ok x else r) P
 chosen true x r P first other = first refl
 chosen false x r P first other = other refl
@@ -101,6 +104,7 @@ bool_read_back : (b : Bool) → IsFixed 1 0 (spelled_bool b) × ((at : ℕ) → 
 bool_read_back true = ((refl, one_more 1 [] (omega arith) no_bytes), λ at. refl)
 bool_read_back false = ((refl, one_more 0 [] (omega arith) no_bytes), λ at. refl)
 
+-- a bool is its byte
 pub truth_law : IsCodec IsBool spelled_bool bool_at
 unfolding bool_at
 truth_law = judged_codec IsBool spelled_bool (λ from item. bool_of from.at (slice_index item.0 0) >>= (λ value. Ok (value, item.1))) (fixed_law 1)
@@ -134,6 +138,7 @@ no_zero_in_front (suc n) = first_not_zero (digits_of 256 (suc n)) (first_digits_
     first_not_zero [] some = refl
     first_not_zero (d ∷ ds) some = ne_eqb d 0 (λ is. omega (arith, some, is))
 
+-- a currency
 pub currency_law : IsCodec IsCurrency spelled_currency currency_at
 unfolding spelled_currency currency_at IsDigits IsWidth
 currency_law = judged_codec IsCurrency spelled_currency (λ from digits. currency_of from.at digits.0 >>= (λ value. Ok (value, digits.1))) digits_codec
@@ -195,6 +200,7 @@ elements_codec : {A : Type 0} {Fits : ℕ → A → Type 0} {spelled : A → Lis
 elements_codec element zero = no_elements element
 elements_codec element (suc n) = an_element_more element n (elements_codec element n)
 
+-- a list is lawful where its elements are
 pub list_law : {A : Type 0} {Fits : ℕ → A → Type 0} {spelled : A → List ℕ} {read : Spot → Result (A × Spot) DecodeFault} → IsCodec Fits spelled read → IsCodec (IsListOf Fits) (spelled_list spelled) (list_at read)
 unfolding spelled_list list_at
 list_law {A} {Fits} {spelled} {read} element = counted_codec length (λ limit xs. All (Fits limit) xs) (flat_map spelled) (elements_at read) count_law (elements_codec element)

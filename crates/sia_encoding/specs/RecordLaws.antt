@@ -75,6 +75,7 @@ known_holds : {K : Type 0} (at : ℕ) (to : Spot) (found : Option K) (P : K × S
 known_holds at to None P holds = tt
 known_holds at to (Some k) P holds = holds k refl
 
+-- a kind is lawful by its name, where names and kinds find each other
 pub named_law : {K T : Type 0} {text : Codec T} (name : K → T) (find : T → Option K) → ((k : K) → find (name k) ≡ Some k) → ((t : T) (k : K) → find t ≡ Some k → name k ≡ t) → Lawful text → Lawful (named text name find)
 named_law {K} {T} {text} name find finds names law = codec (named text name find).fits (named text name find).spelled (named text name find).reading so back
   where
@@ -88,6 +89,7 @@ named_law {K} {T} {text} name find finds names law = codec (named text name find
     back : (at limit : ℕ) (k : K) (rest : List ℕ) → text.fits limit (name k) → (named text name find).reading (spot at (text.spelled (name k) ++ rest) limit) ≡ Ok (k, spot (at + length (text.spelled (name k))) rest limit)
     back at limit k rest fits = then_is _ _ (name k, spot (at + length (text.spelled (name k))) rest limit) _ (law.read_back at limit (name k) rest fits) (ap (known at (spot (at + length (text.spelled (name k))) rest limit)) (finds k))
 
+-- a value of one of several kinds is lawful where its kind is, and what values of each kind have
 pub choice_law : {K A : Type 0} {kind : Codec K} (kind_of : A → K) (bodies : K → Codec A) → ((k : K) (limit : ℕ) (a : A) → (bodies k).fits limit a → kind_of a ≡ k) → Lawful kind → ((k : K) → Lawful (bodies k)) → Lawful (choice kind kind_of bodies)
 choice_law {K} {A} {kind} kind_of bodies same law laws = codec (choice kind kind_of bodies).fits (choice kind kind_of bodies).spelled (choice kind kind_of bodies).reading so back
   where
@@ -119,6 +121,7 @@ choice_law {K} {A} {kind} kind_of bodies same law laws = codec (choice kind kind
         (ap (λ xs. kind.reading (spot at xs limit)) texts ∙ law.read_back at limit (kind_of a) (text ++ rest) fits.0)
         ((laws (kind_of a)).read_back (at + length front) limit a rest fits.1 ∙ ap (λ place. Ok (a, spot place rest limit)) sums)
 
+-- the values of one kind are lawful where their parts are
 pub variant_law : {P A : Type 0} {fields : Codec P} (make : P → A) (parts : A → Option P) → ((p : P) → parts (make p) ≡ Some p) → ((a : A) (p : P) → parts a ≡ Some p → make p ≡ a) → Lawful fields → Lawful (variant fields make parts)
 variant_law {P} {A} {fields} make parts there again law = codec (variant fields make parts).fits (variant fields make parts).spelled (variant fields make parts).reading so back
   where
@@ -136,6 +139,7 @@ variant_law {P} {A} {fields} make parts there again law = codec (variant fields 
     back : (at limit : ℕ) (a : A) (rest : List ℕ) → FitsSome (fields.fits limit) (parts a) → (variant fields make parts).reading (spot at (spelled_some fields.spelled (parts a) ++ rest) limit) ≡ Ok (a, spot (at + length (spelled_some fields.spelled (parts a))) rest limit)
     back at limit a rest fits = here at limit a rest (parts a) refl fits
 
+-- what has no bytes is lawful
 pub nothing_law : Lawful nothing
 nothing_law = codec nothing.fits nothing.spelled nothing.reading
     (λ from bytes. record { fits = tt; bytes = refl; behind = ap (λ at. spot at from.left from.limit) (omega arith) })

@@ -17,8 +17,8 @@ pub trait Item: Drop {
     /// How it is spelled and read, and which values fit a limit of lengths and counts.
     ghost codec: { Codec Self };
 
-    /// Reads one value and goes on behind it, or answers the first fault: then the cursor stands where it was or
-    /// anywhere further.
+    /// Reads one value and goes on behind it, or answers the first fault: then nothing is said of where the cursor stands,
+    /// and [`Item::take`] stays.
     fn read(alloc: Global, cursor: &mut Cursor<'_>) -> Result<Self, DecodeFault>
         ensures { Answers (λ value. (value, cursor.new)) fault_told result (codec.reading cursor.old) };
 

@@ -23,11 +23,11 @@
 //! - [`put_u64`], [`put_bool`], [`put_fixed`], [`put_bytes`] and [`put_currency`] append exactly the spelling, or leave what
 //!   was there for want of memory.
 //! - [`Item`] is what a value owes that lists and records are made of: one codec, which says how it is spelled and read and
-//!   what is within a limit. `take` and `decode` read exactly so and `encode` appends exactly the spelling; where they
-//!   answer an error, the cursor and the bytes are as before.
+//!   what is within a limit. Taking and decoding read exactly so and encoding appends exactly the spelling; where they answer
+//!   an error, the cursor and the bytes are as before.
 //! - [`laws::of`]: of every item, what is read is spelled so, what is spelled and within the limit is read whatever follows,
 //!   and no spelling is a proper prefix of another. [`laws::of_count`]: the same of lengths and counts.
-//! - [`Spelled`] and [`behind!`] spell fields one behind the other.
+//! - [`Spelled::write_each`] spells fields one behind the other; the macro behind makes one of a record's fields.
 //! - [`DecodeFault`] names the first thing that is wrong; a tag or number that stands for no kind is told at its offset.
 //! - [`limits::BLOCK_BYTES`], [`limits::CONTRACT_SECTORS`], [`limits::TOUCHED_PLACES`] and [`limits::ACTIONS`] are limits that
 //!   several crates share.

@@ -1,5 +1,5 @@
 -- The least payout that leaves a value after its tax.
-use Rattle.std.proofs.Common.{◌≡◌, ℕ, zero, suc, refl, ◌+◌, ◌-◌, ◌*◌, ◌/◌, ◌<◌, ◌≤◌, arith}
+use Rattle.std.proofs.Common.{◌≡◌, ℕ, zero, suc, refl, ◌+◌, ◌-◌, ◌*◌, ◌<◌, ◌≤◌, arith}
 use Rattle.sia_rules.specs.Amounts.{shares, tax, IsPayoutFor}
 
 -- the shares are the number of whole 10,000,000 in 39 times the payout

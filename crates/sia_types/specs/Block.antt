@@ -29,6 +29,7 @@ no_transactions = record {
   reading = λ s. u64_at s >>= none_at s;
 }
 
+-- its reading gives back what its spelling writes
 pub no_transactions_law : Lawful no_transactions
 no_transactions_law = judged_codec no_transactions.fits no_transactions.spelled none_at number_law
     (λ from to n fits. chosen (n == 0) (tt, to) (Err (fault.TooLong from.at)) _ (λ is. (tt, ap spelled_u64 (sym (eqb-true n 0 is)), refl)) (λ other. tt))
@@ -45,5 +46,6 @@ block_record = record_of
 abbrev pub block : Codec Block
 block = recorded block_record
 
+-- its reading gives back what its spelling writes
 pub block_law : Lawful block
 block_law = record_law block_record (λ p. refl) (λ r. refl) (hash_law &&& fixed_law 8 &&& number_law &&& list_law coin_output_law &&& no_transactions_law)

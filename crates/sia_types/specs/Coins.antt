@@ -21,6 +21,7 @@ coin_input_record = record_of
 abbrev pub coin_input : Codec CoinInput
 coin_input = recorded coin_input_record
 
+-- its reading gives back what its spelling writes
 pub coin_input_law : Lawful coin_input
 coin_input_law = record_law coin_input_record (λ p. refl) (λ r. refl) (hash_law &&& unlock_conditions_law)
 
@@ -35,5 +36,6 @@ coin_output_record = record_of
 abbrev pub coin_output : Codec CoinOutput
 coin_output = recorded coin_output_record
 
+-- its reading gives back what its spelling writes
 pub coin_output_law : Lawful coin_output
 coin_output_law = record_law coin_output_record (λ p. refl) (λ r. refl) (currency_law &&& hash_law)

@@ -21,6 +21,7 @@ public_key_record = record_of
 abbrev pub public_key : Codec PublicKey
 public_key = recorded public_key_record
 
+-- its reading gives back what its spelling writes
 pub public_key_law : Lawful public_key
 public_key_law = record_law public_key_record (λ p. refl) (λ r. refl) (fixed_law 16 &&& byte_string_law)
 
@@ -35,5 +36,6 @@ unlock_conditions_record = record_of
 abbrev pub unlock_conditions : Codec UnlockConditions
 unlock_conditions = recorded unlock_conditions_record
 
+-- its reading gives back what its spelling writes
 pub unlock_conditions_law : Lawful unlock_conditions
 unlock_conditions_law = record_law unlock_conditions_record (λ p. refl) (λ r. refl) (number_law &&& list_law public_key_law &&& number_law)

@@ -18,5 +18,6 @@ diff_proof_record = record_of
 abbrev pub diff_proof : Codec DiffProof
 diff_proof = recorded diff_proof_record
 
+-- its reading gives back what its spelling writes
 pub diff_proof_law : Lawful diff_proof
 diff_proof_law = record_law diff_proof_record (λ p. refl) (λ r. refl) (list_law hash_law &&& list_law hash_law)

@@ -24,6 +24,7 @@ file_contract_record = record_of
 abbrev pub file_contract : Codec FileContract
 file_contract = recorded file_contract_record
 
+-- its reading gives back what its spelling writes
 pub file_contract_law : Lawful file_contract
 file_contract_law = record_law file_contract_record (λ p. refl) (λ r. refl) (number_law &&& hash_law &&& number_law &&& number_law &&& currency_law &&& list_law coin_output_law &&& list_law coin_output_law &&& hash_law &&& number_law)
 
@@ -38,6 +39,7 @@ revision_record = record_of
 abbrev pub revision : Codec Revision
 revision = recorded revision_record
 
+-- its reading gives back what its spelling writes
 pub revision_law : Lawful revision
 revision_law = record_law revision_record (λ p. refl) (λ r. refl) (hash_law &&& unlock_conditions_law &&& number_law &&& number_law &&& hash_law &&& number_law &&& number_law &&& list_law coin_output_law &&& list_law coin_output_law &&& hash_law)
 
@@ -52,5 +54,6 @@ storage_proof_record = record_of
 abbrev pub storage_proof : Codec StorageProof
 storage_proof = recorded storage_proof_record
 
+-- its reading gives back what its spelling writes
 pub storage_proof_law : Lawful storage_proof
 storage_proof_law = record_law storage_proof_record (λ p. refl) (λ r. refl) (hash_law &&& fixed_law 64 &&& list_law hash_law)

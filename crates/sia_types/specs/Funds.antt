@@ -21,6 +21,7 @@ fund_input_record = record_of
 abbrev pub fund_input : Codec FundInput
 fund_input = recorded fund_input_record
 
+-- its reading gives back what its spelling writes
 pub fund_input_law : Lawful fund_input
 fund_input_law = record_law fund_input_record (λ p. refl) (λ r. refl) (hash_law &&& unlock_conditions_law &&& hash_law)
 
@@ -35,5 +36,6 @@ fund_output_record = record_of
 abbrev pub fund_output : Codec FundOutput
 fund_output = recorded fund_output_record
 
+-- its reading gives back what its spelling writes
 pub fund_output_law : Lawful fund_output
 fund_output_law = record_law fund_output_record (λ p. refl) (λ r. refl) (currency_law &&& hash_law &&& currency_law)

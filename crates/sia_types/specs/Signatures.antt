@@ -20,6 +20,7 @@ covered_record = record_of
 abbrev pub covered : Codec Covered
 covered = recorded covered_record
 
+-- its reading gives back what its spelling writes
 pub covered_law : Lawful covered
 covered_law = record_law covered_record (λ p. refl) (λ r. refl) (truth_law &&& list_law number_law &&& list_law number_law &&& list_law number_law &&& list_law number_law &&& list_law number_law &&& list_law number_law &&& list_law number_law &&& list_law number_law &&& list_law number_law &&& list_law number_law)
 
@@ -34,5 +35,6 @@ signature_record = record_of
 abbrev pub signature : Codec Signature
 signature = recorded signature_record
 
+-- its reading gives back what its spelling writes
 pub signature_law : Lawful signature
 signature_law = record_law signature_record (λ p. refl) (λ r. refl) (hash_law &&& number_law &&& number_law &&& covered_law &&& byte_string_law)

@@ -22,6 +22,7 @@ transaction_record = record_of
 abbrev pub transaction : Codec Transaction
 transaction = recorded transaction_record
 
+-- its reading gives back what its spelling writes
 pub transaction_law : Lawful transaction
 transaction_law = record_law transaction_record (λ p. refl) (λ r. refl) (list_law coin_input_law &&& list_law coin_output_law &&& list_law file_contract_law &&& list_law revision_law &&& list_law storage_proof_law &&& list_law fund_input_law &&& list_law fund_output_law &&& list_law currency_law &&& list_law byte_string_law &&& list_law signature_law)
 

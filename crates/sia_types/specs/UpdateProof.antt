@@ -18,5 +18,6 @@ update_proof_record = record_of
 abbrev pub update_proof : Codec UpdateProof
 update_proof = recorded update_proof_record
 
+-- its reading gives back what its spelling writes
 pub update_proof_law : Lawful update_proof
 update_proof_law = record_law update_proof_record (λ p. refl) (λ r. refl) (list_law hash_law &&& list_law hash_law)
