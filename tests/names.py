@@ -57,7 +57,7 @@ TYPE = re.compile(r"pub(?:\([a-z]+\))? (?:unsafe )?(?:struct|enum|trait|type) (\
 BLOCK = re.compile(r"^pub (?:unsafe )?(enum|trait) (\w+)[^{;]*\{\n(.*?)^\}", re.M | re.S)
 VARIANT = re.compile(r"^ {4}([A-Z]\w*)", re.M)
 PUBLIC = re.compile(r"^ *pub (?:const |unsafe |ghost )*(?:fn|struct|enum|trait|type|const|static|mod|macro) (\w+)", re.M)
-MACRO = re.compile(r"^#\[macro_export\]\nmacro_rules! (\w+)", re.M)
+MACRO = re.compile(r"^macro_rules! (\w+)", re.M)
 ANY = re.compile(r"^ *(?:pub(?:\([a-z]+\))? )?(?:const |unsafe |ghost )*(?:fn|struct|enum|trait|type|const|static|mod) (\w+)", re.M)
 IMPORT = re.compile(r"^ *(?:ghost |pub )*use (?:Rattle\.)?(\w+)([^{;\n]*)(?:\{([^}]*)\})?", re.M)
 TEXT = re.compile(r'"((?:[^"\\\n]|\\.)*)"')
@@ -193,7 +193,7 @@ def is_public_call(text, crate):
 def path_of(text):
     """The parts of an item's path, or none where a text is no path."""
     parts = re.sub(r"::<.*?>|\(\)$", "", text).split("::")
-    return parts if all(re.fullmatch(r"[A-Za-z_◌>=&]['\w◌>=&]*", part) for part in parts) else []
+    return parts if all(re.fullmatch(r"[A-Za-z_◌>=&]['\w◌>=&]*!?", part) for part in parts) else []
 
 
 def is_among(parts, items):

@@ -24,7 +24,8 @@
 //! - [`unlock_hash`] is the Merkle root over the timelock, the keys and the number of required keys.
 //! - [`segment_index`] is the first 8 bytes of the digest of its two identifiers, as a number, modulo the count, and so
 //!   below it.
-//! - The one error is want of memory. Calls that answer no `Result` take none.
+//!
+//! The one error is want of memory. Calls that answer no `Result` take none.
 //!
 //! # Stands on
 //!

@@ -20,7 +20,8 @@
 //! - [`Ledger::sums`], [`Ledger::tip`] and [`Ledger::block_at`] are those of the present chain. What is live, in escrow and
 //!   unclaimed together is what was issued.
 //! - [`Ledger::check_block`] and [`Ledger::apply`] count one step each, [`Ledger::revert`] none.
-//! - Want of memory is the one answer that no clause ties to a cause.
+//!
+//! Want of memory is the one answer that no clause ties to a cause.
 //!
 //! # Stands on
 //!
