@@ -10,10 +10,14 @@
 //! nanoseconds each of the two took.
 //! `sia_bench shelf FILE N` puts N sectors of 4 MiB into FILE, each with a sync, and prints how many nanoseconds that took,
 //! and how many slots aren't free any more.
+//! `sia_bench range FILE N` makes the root of FILE's bytes N times, and N times proves and checks the range of all their
+//! leaves, and that of all but the first and the last, and prints how many nanoseconds each of the three took, and how
+//! many ranges were accepted.
 //! Wrong words give status 1, and a file that can't be read status 2.
 #![tactic(auto)]
 
 mod kernel;
+mod ranges;
 mod records;
 mod run;
 mod sectors;

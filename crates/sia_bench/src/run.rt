@@ -4,6 +4,7 @@ ghost use Rattle.std.specs.Prelude.{◌≡◌, ◌<◌};
 ghost use Rattle.sia_blake.specs.Blake2b.{blake2b_256};
 
 use crate::kernel::Kernel;
+use crate::ranges::range_nanos;
 use crate::records::{append_nanos, open_nanos};
 use crate::sectors::put_nanos;
 use crate::turns::{lock_nanos, turn_nanos};
@@ -56,6 +57,14 @@ pub(crate) fn run<R: Files<File = File> + Print + AllocGlobal + Clock + Threads 
             println!(rt; "turn {}", turning.nanos)?;
             println!(rt; "turns {}", turning.turns)?;
             println!(rt; "mutex {locks}")
+        }
+        Kernel::Range { file, times } => {
+            let bytes = fs::read(rt, file)?;
+            let ranging = range_nanos(rt, rt.alloc(), bytes.as_slice(), times)?;
+            println!(rt; "root {}", ranging.root)?;
+            println!(rt; "all {}", ranging.all)?;
+            println!(rt; "inner {}", ranging.inner)?;
+            println!(rt; "accepted {}", ranging.accepted)
         }
         Kernel::Journal { file, times } => {
             let appending = append_nanos(rt, rt.alloc(), file, times)?;

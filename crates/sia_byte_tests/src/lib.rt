@@ -9,6 +9,10 @@ mod bytes;
 #[cfg(test)]
 mod diff;
 #[cfg(test)]
+mod encoding;
+#[cfg(test)]
 mod merkle;
 #[cfg(test)]
 mod range;
+#[cfg(test)]
+mod roottree;

@@ -3,7 +3,7 @@ use Rattle.std.proofs.Common.{◌≡◌, ℕ, zero, suc, ◌+◌, ◌^◌, ◌<�
 use Rattle.std.specs.Prelude.{Bool, not, nat_le, ◌⊎◌}
 use Rattle.std.proofs.lemmas.Bool.{leb-true, leb-false, not-true}
 use Rattle.std.proofs.lemmas.List.{length-take-le}
-use Rattle.sia_merkle.specs.Computations.{AreSized, Tree, hash_of, same_tree, Collides, HaveOneShape, IsSized}
+use Rattle.sia_merkle.specs.Computations.{AreHashes, Tree, hash_of, same_tree, Collides, HaveOneShape, IsSized}
 use Rattle.sia_merkle.specs.Roots.{first_hash}
 use Rattle.sia_merkle.specs.Segments.{cover, cover_within, is_covered, others, joined_segments_within, JoinsSegments}
 use Rattle.sia_cover.proofs.Covers.{cover_left, cover_one, cover_unchosen, covered_at}
@@ -104,13 +104,13 @@ segments_equal chosen count (suc height) low inner more outer extra within fits 
     (is_covered chosen count (suc height) low) (is_covered (others chosen) count (suc height) low) refl refl (nat_le count (low + 2 ^ height)) refl
 
 -- a join of sized roots is sized
-sized_end : (chosen : ℕ → Bool) (count low : ℕ) (inner outer : List (List ℕ)) → AreSized inner → AreSized outer → (here : Bool) → chosen low ≡ here → IsSized (joined_segments_within chosen count 0 low inner outer)
+sized_end : (chosen : ℕ → Bool) (count low : ℕ) (inner outer : List (List ℕ)) → AreHashes inner → AreHashes outer → (here : Bool) → chosen low ≡ here → IsSized (joined_segments_within chosen count 0 low inner outer)
 unfolding joined_segments_within
 sized_end chosen count low inner outer ins outs true e = rw e (first_given_sized inner ins)
 sized_end chosen count low inner outer ins outs false e = rw e (first_given_sized outer outs)
 
-sized_by : (chosen : ℕ → Bool) (count height low : ℕ) (inner outer : List (List ℕ)) → AreSized inner → AreSized outer
-    → ((at : ℕ) (ins outs : List (List ℕ)) → AreSized ins → AreSized outs → IsSized (joined_segments_within chosen count height at ins outs))
+sized_by : (chosen : ℕ → Bool) (count height low : ℕ) (inner outer : List (List ℕ)) → AreHashes inner → AreHashes outer
+    → ((at : ℕ) (ins outs : List (List ℕ)) → AreHashes ins → AreHashes outs → IsSized (joined_segments_within chosen count height at ins outs))
     → (inside outside : Bool) → is_covered chosen count (suc height) low ≡ inside → is_covered (others chosen) count (suc height) low ≡ outside
     → (short : Bool) → nat_le count (low + 2 ^ height) ≡ short → IsSized (joined_segments_within chosen count (suc height) low inner outer)
 sized_by chosen count height low inner outer ins outs below true outside e f short g = rw (segments_inner chosen count (suc height) low inner outer e) (first_given_sized inner ins)
@@ -123,7 +123,7 @@ sized_by chosen count height low inner outer ins outs below false false e f fals
     (node_sized _ _ (below low (take first inner) (take second outer) (take_sized first inner ins) (take_sized second outer outs))
     (below (low + 2 ^ height) (drop first inner) (drop second outer) (drop_sized first inner ins) (drop_sized second outer outs)))
 
-segments_sized : (chosen : ℕ → Bool) (count height low : ℕ) (inner outer : List (List ℕ)) → AreSized inner → AreSized outer → IsSized (joined_segments_within chosen count height low inner outer)
+segments_sized : (chosen : ℕ → Bool) (count height low : ℕ) (inner outer : List (List ℕ)) → AreHashes inner → AreHashes outer → IsSized (joined_segments_within chosen count height low inner outer)
 segments_sized chosen count zero low inner outer ins outs = sized_end chosen count low inner outer ins outs (chosen low) refl
 segments_sized chosen count (suc height) low inner outer ins outs =
     sized_by chosen count height low inner outer ins outs (λ at first second all each. segments_sized chosen count height at first second all each)
@@ -174,7 +174,7 @@ fits_whole chosen count inner outer tree joins = record { inside = joins.places;
 -- Two joins of the roots of both covers of a set of places that give one root join the same, or collide.
 pub segments_collide : (chosen : ℕ → Bool) (count : ℕ) (inner more outer extra : List (List ℕ)) (tree other : Tree) → 0 < count
     → JoinsSegments chosen count inner outer tree → JoinsSegments chosen count more extra other
-    → AreSized inner → AreSized outer → AreSized more → AreSized extra → hash_of tree ≡ hash_of other
+    → AreHashes inner → AreHashes outer → AreHashes more → AreHashes extra → hash_of tree ≡ hash_of other
     → ((inner ≡ more) × (outer ≡ extra)) ⊎ Collides tree other
 segments_collide chosen count inner more outer extra tree other some joins joins' ins outs ins' outs' one =
     rw (joins.joined, joins'.joined)

@@ -5,7 +5,7 @@ use Rattle.std.specs.Cmp.Lexicographic.{same_text}
 use Rattle.std.specs.List.{range_with_len}
 use Rattle.std.proofs.lemmas.Bool.{leb-true, leb-false, not-true}
 use Rattle.std.proofs.lemmas.List.{length-take-le, take-append-drop}
-use Rattle.sia_merkle.specs.Computations.{AreSized, Tree, hash_of, same_tree, Collides, HaveOneShape, IsSized}
+use Rattle.sia_merkle.specs.Computations.{AreHashes, Tree, hash_of, same_tree, Collides, HaveOneShape, IsSized}
 use Rattle.sia_merkle.specs.Computations.Tree.{Given, Leaf, Node}
 use Rattle.sia_merkle.specs.Roots.{first_hash}
 use Rattle.sia_merkle.specs.Segments.{Segment, segment_roots, cover, cover_within, is_covered, others, places_within, first_tree, joined_within, Joins}
@@ -32,12 +32,12 @@ pub record Fits (chosen : ℕ → Bool) (count height low : ℕ) (inner : List T
   pub segments : length outer ≡ length (cover_within (others chosen) count height low)
 
 -- parts of lists
-pub take_sized : (count : ℕ) (hashes : List (List ℕ)) → AreSized hashes → AreSized (take count hashes)
+pub take_sized : (count : ℕ) (hashes : List (List ℕ)) → AreHashes hashes → AreHashes (take count hashes)
 take_sized zero hashes sized = tt
 take_sized (suc count) [] sized = tt
 take_sized (suc count) (hash ∷ hashes) sized = (sized.0, take_sized count hashes sized.1)
 
-pub drop_sized : (count : ℕ) (hashes : List (List ℕ)) → AreSized hashes → AreSized (drop count hashes)
+pub drop_sized : (count : ℕ) (hashes : List (List ℕ)) → AreHashes hashes → AreHashes (drop count hashes)
 drop_sized zero hashes sized = sized
 drop_sized (suc count) [] sized = tt
 drop_sized (suc count) (hash ∷ hashes) sized = drop_sized count hashes sized.1
@@ -66,12 +66,12 @@ drop_shapes (suc count) [] (other ∷ more) shapes = absurd shapes
 drop_shapes (suc count) (tree ∷ trees) [] shapes = absurd shapes
 drop_shapes (suc count) (tree ∷ trees) (other ∷ more) shapes = drop_shapes count trees more shapes.1
 
-pub roots_sized : (hashes : List (List ℕ)) (segments : List Segment) → AreSized hashes → AreSized (segment_roots hashes segments)
+pub roots_sized : (hashes : List (List ℕ)) (segments : List Segment) → AreHashes hashes → AreHashes (segment_roots hashes segments)
 roots_sized hashes [] sized = tt
 roots_sized hashes (segment ∷ segments) sized =
     (tree_root-length segment.level (take (2 ^ segment.level) (drop (segment.index * 2 ^ segment.level) hashes)) (take_sized (2 ^ segment.level) (drop (segment.index * 2 ^ segment.level) hashes) (drop_sized (segment.index * 2 ^ segment.level) hashes sized)), roots_sized hashes segments sized)
 
-pub given_sized : (hashes : List (List ℕ)) → AreSized hashes → AreSizedTrees (map Given hashes)
+pub given_sized : (hashes : List (List ℕ)) → AreHashes hashes → AreSizedTrees (map Given hashes)
 unfolding IsSized
 given_sized [] sized = tt
 given_sized (hash ∷ hashes) sized = (sized.0, given_sized hashes sized.1)
@@ -261,11 +261,11 @@ joined_equal chosen count (suc height) low inner more outer extra within fits fi
     (is_covered (others chosen) count (suc height) low) refl (nat_le count (low + 2 ^ height)) refl
 
 -- a join of sized parts is sized
-pub first_hash_sized : (hashes : List (List ℕ)) → AreSized hashes → length (first_hash hashes) ≡ 32
+pub first_hash_sized : (hashes : List (List ℕ)) → AreHashes hashes → length (first_hash hashes) ≡ 32
 first_hash_sized [] sized = refl
 first_hash_sized (hash ∷ hashes) sized = sized.0
 
-pub first_given_sized : (hashes : List (List ℕ)) → AreSized hashes → IsSized (Given (first_hash hashes))
+pub first_given_sized : (hashes : List (List ℕ)) → AreHashes hashes → IsSized (Given (first_hash hashes))
 unfolding IsSized
 first_given_sized hashes sized = first_hash_sized hashes sized
 
@@ -277,13 +277,13 @@ first_tree_sized : (trees : List Tree) → AreSizedTrees trees → IsSized (firs
 first_tree_sized [] sized = first_given_sized [] tt
 first_tree_sized (tree ∷ trees) sized = sized.0
 
-sized_end : (chosen : ℕ → Bool) (count low : ℕ) (inner : List Tree) (outer : List (List ℕ)) → AreSizedTrees inner → AreSized outer → (here : Bool) → chosen low ≡ here → IsSized (joined_within chosen count 0 low inner outer)
+sized_end : (chosen : ℕ → Bool) (count low : ℕ) (inner : List Tree) (outer : List (List ℕ)) → AreSizedTrees inner → AreHashes outer → (here : Bool) → chosen low ≡ here → IsSized (joined_within chosen count 0 low inner outer)
 unfolding joined_within
 sized_end chosen count low inner outer trees hashes true e = rw e (first_tree_sized inner trees)
 sized_end chosen count low inner outer trees hashes false e = rw e (first_given_sized outer hashes)
 
-sized_by : (chosen : ℕ → Bool) (count height low : ℕ) (inner : List Tree) (outer : List (List ℕ)) → AreSizedTrees inner → AreSized outer
-    → ((at : ℕ) (trees : List Tree) (hashes : List (List ℕ)) → AreSizedTrees trees → AreSized hashes → IsSized (joined_within chosen count height at trees hashes))
+sized_by : (chosen : ℕ → Bool) (count height low : ℕ) (inner : List Tree) (outer : List (List ℕ)) → AreSizedTrees inner → AreHashes outer
+    → ((at : ℕ) (trees : List Tree) (hashes : List (List ℕ)) → AreSizedTrees trees → AreHashes hashes → IsSized (joined_within chosen count height at trees hashes))
     → (covered : Bool) → is_covered (others chosen) count (suc height) low ≡ covered → (short : Bool) → nat_le count (low + 2 ^ height) ≡ short
     → IsSized (joined_within chosen count (suc height) low inner outer)
 sized_by chosen count height low inner outer trees hashes below true e short f = rw (join_given chosen count (suc height) low inner outer e) (first_given_sized outer hashes)
@@ -295,7 +295,7 @@ sized_by chosen count height low inner outer trees hashes below false e false f 
     (node_sized _ _ (below low (take places inner) (take cut outer) (take_sized_trees places inner trees) (take_sized cut outer hashes))
     (below (low + 2 ^ height) (drop places inner) (drop cut outer) (drop_sized_trees places inner trees) (drop_sized cut outer hashes)))
 
-pub joined_sized : (chosen : ℕ → Bool) (count height low : ℕ) (inner : List Tree) (outer : List (List ℕ)) → AreSizedTrees inner → AreSized outer → IsSized (joined_within chosen count height low inner outer)
+pub joined_sized : (chosen : ℕ → Bool) (count height low : ℕ) (inner : List Tree) (outer : List (List ℕ)) → AreSizedTrees inner → AreHashes outer → IsSized (joined_within chosen count height low inner outer)
 joined_sized chosen count zero low inner outer trees hashes = sized_end chosen count low inner outer trees hashes (chosen low) refl
 joined_sized chosen count (suc height) low inner outer trees hashes =
     sized_by chosen count height low inner outer trees hashes (λ at part roots all each. joined_sized chosen count height at part roots all each)
@@ -361,7 +361,7 @@ joins_by chosen count height low inner more outer extra within fits fits' (inr c
 -- Two joins of the chosen places among the 2 ^ height from low on that give one root join the same, or collide.
 pub joins_within_collide : (chosen : ℕ → Bool) (count height low : ℕ) (inner more : List Tree) (outer extra : List (List ℕ)) → low < count
     → Fits chosen count height low inner outer → Fits chosen count height low more extra
-    → AreSizedTrees inner → AreSized outer → AreSizedTrees more → AreSized extra → HaveOneShapeEach inner more
+    → AreSizedTrees inner → AreHashes outer → AreSizedTrees more → AreHashes extra → HaveOneShapeEach inner more
     → hash_of (joined_within chosen count height low inner outer) ≡ hash_of (joined_within chosen count height low more extra)
     → ((inner ≡ more) × (outer ≡ extra)) ⊎ Collides (joined_within chosen count height low inner outer) (joined_within chosen count height low more extra)
 joins_within_collide chosen count height low inner more outer extra within fits fits' trees hashes trees' hashes' shapes one =
@@ -385,7 +385,7 @@ none_joined chosen inner more outer extra fits fits' =
 
 whole_by : (chosen : ℕ → Bool) (count : ℕ) (inner more : List Tree) (outer extra : List (List ℕ))
     → Fits chosen count count 0 inner outer → Fits chosen count count 0 more extra
-    → AreSizedTrees inner → AreSized outer → AreSizedTrees more → AreSized extra → HaveOneShapeEach inner more
+    → AreSizedTrees inner → AreHashes outer → AreSizedTrees more → AreHashes extra → HaveOneShapeEach inner more
     → hash_of (joined_within chosen count count 0 inner outer) ≡ hash_of (joined_within chosen count count 0 more extra)
     → ((inner ≡ more) × (outer ≡ extra)) ⊎ Collides (joined_within chosen count count 0 inner outer) (joined_within chosen count count 0 more extra)
 whole_by chosen zero inner more outer extra fits fits' trees hashes trees' hashes' shapes one = inl (none_joined chosen inner more outer extra fits fits')
@@ -395,7 +395,7 @@ whole_by chosen (suc count) inner more outer extra fits fits' trees hashes trees
 -- Two joins of a set of places that give one root join the same, or collide.
 pub joins_collide : (chosen : ℕ → Bool) (count : ℕ) (inner more : List Tree) (outer extra : List (List ℕ)) (tree other : Tree)
     → Joins chosen count inner outer tree → Joins chosen count more extra other
-    → AreSizedTrees inner → AreSized outer → AreSizedTrees more → AreSized extra → HaveOneShapeEach inner more → hash_of tree ≡ hash_of other
+    → AreSizedTrees inner → AreHashes outer → AreSizedTrees more → AreHashes extra → HaveOneShapeEach inner more → hash_of tree ≡ hash_of other
     → ((inner ≡ more) × (outer ≡ extra)) ⊎ Collides tree other
 joins_collide chosen count inner more outer extra tree other joins joins' trees hashes trees' hashes' shapes one =
     rw (joins.joined, joins'.joined)

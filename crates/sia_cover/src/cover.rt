@@ -1,4 +1,7 @@
 //! The cover of a set of places: how many segments it has, and their roots.
+//!
+//! In a tree over 11 hashes the places 3 to 9, seven of them, are covered by three segments: 3, then 4 to 7, then 8 and 9.
+//! All others are covered by three more: 0 and 1, then 2, then 10. A proof of the range 3 to 9 has the roots of the latter.
 ghost use Rattle.std.specs.Prelude.{◌≡◌, ◌<◌, ◌≤◌, ◌++◌, length, IfOk, OnOk};
 ghost use Rattle.sia_merkle.specs.Segments.{cover, cover_within, segment_roots};
 

@@ -6,7 +6,7 @@ use Rattle.std.specs.List.{range_with_len, list_all, filter}
 use Rattle.std.proofs.lemmas.Bool.{lt-leb, lt-ltb, ltb-true, ltb-false}
 use Rattle.std.proofs.lemmas.List.{length-map, get_or_past}
 use Rattle.std.proofs.lemmas.List.FromFn.{length-range_with_len, get_or-map-range_with_len}
-use Rattle.sia_merkle.specs.Computations.{AreSized, Tree, hash_of, Collides}
+use Rattle.sia_merkle.specs.Computations.{AreHashes, Tree, hash_of, Collides}
 use Rattle.sia_merkle.specs.Computations.Tree.{Given}
 use Rattle.sia_merkle.specs.Roots.{first_hash, node_root_of}
 use Rattle.sia_merkle.specs.Segments.{cover, others, joined_within, Joins}
@@ -16,7 +16,7 @@ use Rattle.sia_cover.proofs.OwnWholes.{own_joins, own_whole, own_roots}
 use Rattle.sia_cover.proofs.SameCovers.{AgreeAt, AreWithin, cover_roots_same}
 use Rattle.sia_cover.proofs.Soundness.{roots_sized, given_sized, given_shapes, joins_collide}
 use Rattle.sia_diff.specs.declared.steps.DiffStep.{DiffStep}
-use Rattle.sia_diff.specs.Diffs.{touched_or_new, hashes_at, old_tree, spread, moved, new_tree, IsDiffOf, own_leaves, own_nodes, IsOwnDiff}
+use Rattle.sia_diff.specs.Diffs.{touched_or_new, hashes_at, old_tree, spread, moved_hashes, new_tree, IsDiffOf, own_leaves, own_nodes, IsOwnDiff}
 use Rattle.sia_diff.specs.DiffSteps.{counted_steps, after, count_after, is_touched, is_fit, step_fits, touch_count, touched_places}
 use Rattle.sia_diff.proofs.Agreement.{AgreeOn, agree_after, keep_after}
 use Rattle.sia_diff.proofs.Counts.{filter_row}
@@ -79,8 +79,8 @@ touches_chosen count steps place more = or_true (nat_le count place) (nat_lt 0 (
 
 -- after the steps, the moved hashes are those of the list
 pub moved_agree : (hashes : List (List ℕ)) (steps : List DiffStep) → list_all (λ counted. step_fits counted.count counted.step) (counted_steps (length hashes) steps) ≡ true
-    → AgreeOn (touched_or_new (length hashes) steps) (after hashes steps) (moved (length hashes) steps (own_leaves hashes steps))
-unfolding moved
+    → AgreeOn (touched_or_new (length hashes) steps) (after hashes steps) (moved_hashes (length hashes) steps (own_leaves hashes steps))
+unfolding moved_hashes
 moved_agree hashes steps fits =
     let chosen = touched_or_new (length hashes) steps in
     let start : AgreeOn (touched_or_new (length hashes) steps) hashes (spread (touched_or_new (length hashes) steps) (range_with_len 0 (length hashes)) (own_leaves hashes steps)) =
@@ -113,9 +113,9 @@ pub own_new : (hashes : List (List ℕ)) (steps : List DiffStep) → list_all (�
 unfolding new_tree
 own_new hashes steps fits =
     let len : count_after (length hashes) steps ≡ length (after hashes steps) = sym (length_after hashes steps (length hashes) refl fits) in
-    let leaves : hashes_at (touched_or_new (length hashes) steps) (moved (length hashes) steps (own_leaves hashes steps)) (count_after (length hashes) steps)
+    let leaves : hashes_at (touched_or_new (length hashes) steps) (moved_hashes (length hashes) steps (own_leaves hashes steps)) (count_after (length hashes) steps)
     ≡ hashes_at (touched_or_new (length hashes) steps) (after hashes steps) (count_after (length hashes) steps) =
-    map_agree (touched_or_new (length hashes) steps) (λ place. get_or (moved (length hashes) steps (own_leaves hashes steps)) place []) (λ place. get_or (after hashes steps) place []) (range_with_len 0 (count_after (length hashes) steps))
+    map_agree (touched_or_new (length hashes) steps) (λ place. get_or (moved_hashes (length hashes) steps (own_leaves hashes steps)) place []) (λ place. get_or (after hashes steps) place []) (range_with_len 0 (count_after (length hashes) steps))
     (λ place here. sym (moved_agree hashes steps fits place here)) in
     ap (λ hs. hash_of (joined_within (touched_or_new (length hashes) steps) (count_after (length hashes) steps) (count_after (length hashes) steps) 0 (map Given hs) (own_nodes hashes steps))) leaves
     ∙ ap (λ roots. hash_of (joined_within (touched_or_new (length hashes) steps) (count_after (length hashes) steps) (count_after (length hashes) steps) 0
@@ -124,11 +124,11 @@ own_new hashes steps fits =
     ∙ own_whole (touched_or_new (length hashes) steps) (after hashes steps)
 
 -- each hash has 32 bytes
-map_sized : (get : ℕ → List ℕ) (places : List ℕ) → ((k : ℕ) → k < length places → length (get (get_or places k 0)) ≡ 32) → AreSized (map get places)
+map_sized : (get : ℕ → List ℕ) (places : List ℕ) → ((k : ℕ) → k < length places → length (get (get_or places k 0)) ≡ 32) → AreHashes (map get places)
 map_sized get [] each = tt
 map_sized get (place ∷ places) each = (each 0 (omega arith), map_sized get places (λ k within. each (suc k) (omega arith)))
 
-own_sized : (hashes : List (List ℕ)) (steps : List DiffStep) → ((i : ℕ) → i < length hashes → length (get_or hashes i []) ≡ 32) → AreSized (own_leaves hashes steps)
+own_sized : (hashes : List (List ℕ)) (steps : List DiffStep) → ((i : ℕ) → i < length hashes → length (get_or hashes i []) ≡ 32) → AreHashes (own_leaves hashes steps)
 own_sized hashes steps told =
     map_sized (λ place. get_or hashes place []) (touched_places (length hashes) steps) (λ k within. told (get_or (touched_places (length hashes) steps) k 0) (touched_below (length hashes) steps k 0 within))
 
@@ -152,7 +152,7 @@ another_by hashes steps leaves nodes fits tree other (inl same) =
 another_by hashes steps leaves nodes fits tree other (inr clash) = inr clash
 
 pub another_diff : (hashes : List (List ℕ)) (root : List ℕ) (leaves nodes : List (List ℕ)) (steps : List DiffStep) → is_fit (length hashes) steps ≡ true → node_root_of hashes ≡ root
-    → AreSized hashes → AreSized leaves → AreSized nodes → IsDiffOf root (length hashes) steps leaves nodes
+    → AreHashes hashes → AreHashes leaves → AreHashes nodes → IsDiffOf root (length hashes) steps leaves nodes
     → IsOwnDiff hashes steps leaves nodes ⊎ Collides (old_tree (length hashes) steps (own_leaves hashes steps) (own_nodes hashes steps)) (old_tree (length hashes) steps leaves nodes)
 another_diff hashes root leaves nodes steps fit is sized leaves_sized nodes_sized diff =
     let own = own_diff hashes steps in

@@ -4,7 +4,7 @@ use Rattle.sia_merkle.specs.Segments.{cover, cover_within, others}
 use Rattle.sia_diff.specs.declared.steps.DiffStep.{DiffStep}
 use Rattle.sia_diff.specs.declared.steps.DiffStep.TheVariants as step
 use Rattle.sia_diff.specs.DiffSteps.{after, count_after, counted_steps, touch_count, is_touched, touched_places, is_fit}
-use Rattle.sia_diff.specs.Diffs.{touched_or_new, hashes_at, spread, moved}
+use Rattle.sia_diff.specs.Diffs.{touched_or_new, hashes_at, spread, moved_hashes}
 
 abbrev five : List (List ℕ)
 five = (0 ∷ []) ∷ (1 ∷ []) ∷ (2 ∷ []) ∷ (3 ∷ []) ∷ (4 ∷ []) ∷ []
@@ -32,8 +32,8 @@ unfolding after
 write_gives = refl
 
 -- from the hashes 0, 2 and 4 alone
-write_moves : hashes_at (touched_or_new 5 write) (moved 5 write ((0 ∷ []) ∷ (2 ∷ []) ∷ (4 ∷ []) ∷ [])) (count_after 5 write) ≡ (2 ∷ []) ∷ (0 ∷ []) ∷ (9 ∷ []) ∷ []
-unfolding moved spread after count_after is_touched touch_count counted_steps
+write_moves : hashes_at (touched_or_new 5 write) (moved_hashes 5 write ((0 ∷ []) ∷ (2 ∷ []) ∷ (4 ∷ []) ∷ [])) (count_after 5 write) ≡ (2 ∷ []) ∷ (0 ∷ []) ∷ (9 ∷ []) ∷ []
+unfolding moved_hashes spread after count_after is_touched touch_count counted_steps
 write_moves = refl
 
 past_the_end : is_fit 5 (step.Swap 0 5 ∷ []) ≡ false

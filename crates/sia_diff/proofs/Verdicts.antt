@@ -1,10 +1,8 @@
 -- What the check of a diff answers.
-use Rattle.std.proofs.Common.{◌≡◌, ◌≢◌, ℕ, ◌<◌, ◌≤◌, true, false, List, length, map, refl, sym, ◌∙◌, ap, subst, arith}
-use Rattle.std.specs.Prelude.{Bool, not, ◌||◌, nat_eq, nat_le, nat_lt, IsTrue, ◌↔◌, count_by}
+use Rattle.std.proofs.Common.{◌≡◌, ℕ, ◌<◌, ◌≤◌, true, false, List, length, map, refl, sym, ◌∙◌, ap, subst, arith}
+use Rattle.std.specs.Prelude.{Bool, not, ◌||◌, nat_le, nat_lt}
 use Rattle.std.specs.List.{range_with_len, list_all}
-use Rattle.std.specs.Cmp.Lexicographic.{pointwise, same_text}
 use Rattle.std.proofs.lemmas.Bool.{leb-false, ltb-false}
-use Rattle.std.proofs.lemmas.List.{length-map}
 use Rattle.std.proofs.lemmas.List.FromFn.{length-range_with_len}
 use Rattle.sia_merkle.specs.Computations.{hash_of}
 use Rattle.sia_merkle.specs.Computations.Tree.{Given}
@@ -12,7 +10,7 @@ use Rattle.sia_merkle.specs.Segments.{cover, others, joined_within}
 use Rattle.sia_cover.proofs.SameCovers.{AreWithin, cover_same}
 use Rattle.sia_diff.specs.declared.steps.DiffStep.{DiffStep}
 use Rattle.sia_cover.specs.Joined.{JoinTo}
-use Rattle.sia_diff.specs.Diffs.{touched_or_new, hashes_at, old_tree, spread, moved, new_tree, IsDiffOf}
+use Rattle.sia_diff.specs.Diffs.{touched_or_new, hashes_at, old_tree, spread, moved_hashes, new_tree, IsDiffOf}
 use Rattle.sia_diff.specs.DiffSteps.{counted_steps, after, count_after, is_touched, step_fits, touch_count}
 use Rattle.sia_diff.proofs.Moves.{keeps_within, length_after, length_spread}
 
@@ -72,7 +70,7 @@ moved_count chosen count steps leaves hashes fits is =
 pub new_root : (first second : ℕ → Bool) (count len : ℕ) (steps : List DiffStep) (inner leaves outer nodes hashes chosen : List (List ℕ)) → first ≡ touched_or_new count steps → second ≡ touched_or_new count steps
     → len ≡ count_after count steps → inner ≡ leaves → outer ≡ nodes → hashes ≡ after (spread first (range_with_len 0 count) inner) steps → chosen ≡ hashes_at second hashes len
     → hash_of (joined_within second len len 0 (map Given chosen) outer) ≡ hash_of (new_tree count steps leaves nodes)
-unfolding new_tree moved
+unfolding new_tree moved_hashes
 new_root first second count len steps inner leaves outer nodes hashes chosen first_is second_is len_is leaves_is nodes_is hashes_is chosen_is =
     let all : hashes ≡ after (spread (touched_or_new count steps) (range_with_len 0 count) leaves) steps =
     hashes_is ∙ ap (λ (c : ℕ → Bool). after (spread c (range_with_len 0 count) inner) steps) first_is ∙ ap (λ hs. after (spread (touched_or_new count steps) (range_with_len 0 count) hs) steps) leaves_is in

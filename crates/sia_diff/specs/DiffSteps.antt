@@ -2,6 +2,7 @@
 -- proofs). Places count from 0.
 use Rattle.std.specs.Prelude.{ℕ, ◌+◌, ◌-◌, nat_le, nat_lt, nat_eq, Bool, true, false, ◌&&◌, ◌||◌, List, [], ◌∷◌, ◌++◌, length, take, count_by, slice_set, slice_index_or}
 use Rattle.std.specs.List.{range_with_len, list_all, filter}
+use Rattle.sia_encoding.specs.declared.limits.TheConstants.{CONTRACT_SECTORS, TOUCHED_PLACES}
 use Rattle.sia_diff.specs.declared.steps.DiffStep.{DiffStep}
 use Rattle.sia_diff.specs.declared.steps.DiffStep.TheVariants as step
 
@@ -60,7 +61,7 @@ touched_places count steps = filter (is_touched count steps) (range_with_len 0 c
 
 -- whether a step can be done: what it names is there, as is what it removes, and it makes no more than 65,536 hashes
 abbrev pub step_fits : ℕ → DiffStep → Bool
-step_fits count (step.Append hash) = nat_lt count 65536
+step_fits count (step.Append hash) = nat_lt count CONTRACT_SECTORS
 step_fits count (step.Trim fewer) = nat_le fewer count
 step_fits count (step.Swap i j) = nat_lt i count && nat_lt j count
 step_fits count (step.Set i hash) = nat_lt i count
@@ -73,5 +74,5 @@ is_alone count steps one = true
 -- whether these steps are fit for so many hashes: at most 65,536 of them, at most 1,024 of their places touched
 unfoldable pub is_fit : ℕ → List DiffStep → Bool
 is_fit count steps =
-    nat_le count 65536 && list_all (λ counted. step_fits counted.count counted.step) (counted_steps count steps) && list_all (is_alone count steps) steps
-    && nat_le (length (touched_places count steps)) 1024
+    nat_le count CONTRACT_SECTORS && list_all (λ counted. step_fits counted.count counted.step) (counted_steps count steps) && list_all (is_alone count steps) steps
+    && nat_le (length (touched_places count steps)) TOUCHED_PLACES

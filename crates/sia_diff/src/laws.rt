@@ -1,7 +1,7 @@
 //! What an accepted diff shows, and that a list's own proof is accepted, as laws over any lists. The functions here do
 //! nothing: their contracts are the laws, and a caller that wants one calls its function.
 ghost use Rattle.std.specs.Prelude.{◌≡◌, ◌⊎◌, ℕ, List, IsTrue, length};
-ghost use Rattle.sia_merkle.specs.Computations.{AreSized, Collides, hash_of};
+ghost use Rattle.sia_merkle.specs.Computations.{AreHashes, Collides, hash_of};
 ghost use Rattle.sia_merkle.specs.Roots.{node_root_of};
 ghost use Rattle.sia_diff.specs.declared.steps.DiffStep.{DiffStep as Step};
 ghost use Rattle.sia_diff.specs.Diffs.{IsDiffOf, IsOwnDiff, new_tree, old_tree, own_leaves, own_nodes};
@@ -12,7 +12,7 @@ ghost use Rattle.sia_diff.specs.DiffSteps.{after, is_fit};
 /// list's own proof and that from the accepted one clash in a collision: two different byte strings of one digest.
 pub fn another_diff_collides()
     ensures { (hashes leaves nodes : List (List ℕ)) → (root : List ℕ) → (steps : List Step) → IsTrue (is_fit (length hashes) steps) → node_root_of hashes ≡ root
-        → AreSized hashes → AreSized leaves → AreSized nodes → IsDiffOf root (length hashes) steps leaves nodes
+        → AreHashes hashes → AreHashes leaves → AreHashes nodes → IsDiffOf root (length hashes) steps leaves nodes
         → IsOwnDiff hashes steps leaves nodes
         ⊎ Collides (old_tree (length hashes) steps (own_leaves hashes steps) (own_nodes hashes steps)) (old_tree (length hashes) steps leaves nodes) }
 {}

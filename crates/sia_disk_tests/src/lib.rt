@@ -1,4 +1,5 @@
-//! Tests of sources, sinks and disks, a table for each theme: what no clause says of them, above all what the system does.
+//! Tests of sources, sinks, disks, journals, shelves and acts over both, a table for each theme: what no clause says of them,
+//! above all what the system does, and which bytes stand where.
 #![tactic(auto)]
 
 #[cfg(test)]
@@ -7,3 +8,9 @@ mod edge_disks;
 mod edge_memory;
 #[cfg(test)]
 mod edge_streams;
+#[cfg(test)]
+mod journal_files;
+#[cfg(test)]
+mod shelf_sectors;
+#[cfg(test)]
+mod two_disks_acts;

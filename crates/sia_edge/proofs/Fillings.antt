@@ -1,6 +1,6 @@
 -- How far filling a buffer from a source has come.
 use Rattle.std.proofs.Common.{◌≡◌, ◌++◌, ℕ, ◌+◌, ◌≤◌, List, [], length, take, drop, Option, None, Some, arith, ap, refl, sym, ◌∙◌}
-use Rattle.std.specs.Prelude.{IfSome, min}
+use Rattle.std.specs.Prelude.{IfSome}
 use Rattle.std.specs.Io.KnownBytes.{Consumes, Keeps}
 use Rattle.std.proofs.lemmas.List.{take_at, drop_at, take-append-le, length-take, length-append, append_assoc}
 use Rattle.std.proofs.Math.Seq.{take-add}

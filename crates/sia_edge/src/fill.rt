@@ -1,5 +1,5 @@
 //! A buffer that is filled from a source.
-ghost use Rattle.std.specs.Prelude.{◌≡◌, ◌≤◌, ℕ, List, length, IfOk, IfSome, OnErr};
+ghost use Rattle.std.specs.Prelude.{◌≤◌, ℕ, List, length, IfOk, IfSome, OnErr};
 ghost use Rattle.std.specs.Io.KnownBytes.{Consumes};
 ghost use Rattle.sia_edge.specs.Edge.{Rose};
 ghost use Rattle.sia_edge.specs.Filled.{FilledFrom};

@@ -29,6 +29,8 @@
 //! - After a call of a [`FileDisk`] has failed there is no file, the length stays, and each later call fails and counts, until
 //!   [`FileDisk::open`] is called again. [`FileDisk::empty`] is such a disk from the start.
 //! - A [`FileSource`], a [`FileSink`] or a [`FileDisk`] without a file fails and counts in each call, [`FileSink::finish`] too.
+//! - A [`SigCheck`] has one verdict of key, hash and signature, the same for every value of its type. A [`Signer`] has one key, and
+//!   signs as its type's relation of key, hash and signature allows; its one error is want of memory.
 //!
 //! What no clause can say is tested over real files: what the system does at [`FileDisk::open`] (it locks the file without
 //! waiting, syncs it and its folder, and drops the pages that the system keeps of it, on no descriptor of a standard stream),
@@ -53,6 +55,7 @@ mod memory;
 mod opened_file;
 mod opening;
 mod read_disk;
+mod signing;
 mod system;
 mod traits;
 
@@ -65,5 +68,6 @@ pub use mem_disk::MemDisk;
 pub use memory::{MemSink, MemSource, SureSource};
 pub use opened_file::OpenedFile;
 pub use read_disk::{ReadFault, read_into, read_onto, read_whole};
+pub use signing::{SigCheck, Signer};
 pub use system::{FileSink, FileSource, StdSink};
 pub use traits::{Got, Put, Sink, Source};

@@ -41,10 +41,11 @@ Lawful codec = IsCodec codec.fits codec.spelled codec.reading
 
 -- the values that fit
 
--- a fixed array of n bytes, which is spelled as it is
+-- a fixed array of n bytes
 abbrev pub IsFixed : ℕ → ℕ → List ℕ → Type 0
 IsFixed n limit bytes = (length bytes ≡ n) × AreBytes bytes
 
+-- a fixed array is spelled as it is
 abbrev pub spelled_fixed : List ℕ → List ℕ
 spelled_fixed bytes = bytes
 

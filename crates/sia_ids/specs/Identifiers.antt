@@ -43,12 +43,12 @@ unfoldable pub genesis_id : List FundOutput → List ℕ
 genesis_id funds = blake2b_256 (genesis_text funds)
 
 -- the text of the siafund output at an index from 0 of the genesis with this identifier
-unfoldable pub fund_text : List ℕ → ℕ → List ℕ
-fund_text genesis index = label (codes "siafund output") ++ (genesis ++ spelled_u64 index)
+unfoldable pub genesis_fund_text : List ℕ → ℕ → List ℕ
+genesis_fund_text genesis index = label (codes "siafund output") ++ (genesis ++ spelled_u64 index)
 
 -- a siafund output of the genesis is named by the digest of its text
-unfoldable pub fund_id : List ℕ → ℕ → List ℕ
-fund_id genesis index = blake2b_256 (fund_text genesis index)
+unfoldable pub genesis_fund_id : List ℕ → ℕ → List ℕ
+genesis_fund_id genesis index = blake2b_256 (genesis_fund_text genesis index)
 
 -- each address is a digest's length
 abbrev pub AreSized : List FundOutput → Type 0

@@ -2,7 +2,7 @@
 ghost use Rattle.std.specs.Prelude.{◌≡◌, ◌++◌, map, length, IfOk, OnOk};
 ghost use Rattle.sia_encoding.specs.Spelling.{spelled_list};
 ghost use Rattle.sia_types.specs.Funds.{fund_output};
-ghost use Rattle.sia_ids.specs.Identifiers.{AreSized, new_fund, genesis_id as genesis_id_of, fund_id};
+ghost use Rattle.sia_ids.specs.Identifiers.{AreSized, new_fund, genesis_id as genesis_id_of, genesis_fund_id as genesis_fund_id_of};
 
 use sia_blake::{Hash, Hasher, digest};
 use sia_encoding::{Blob, put_fixed, put_u64};
@@ -29,9 +29,9 @@ pub fn genesis_id(alloc: Global, funds: &[FundOutput]) -> Result<Hash, AllocErro
 }
 
 /// The identifier of the siafund output at an index from 0 of the genesis with this identifier.
-#[tactic(auto, unfolding(crate::specs::Identifiers::fund_text, crate::specs::Identifiers::fund_id, sia_encoding::specs::Spelling::spelled_u64))]
+#[tactic(auto, unfolding(crate::specs::Identifiers::genesis_fund_text, crate::specs::Identifiers::genesis_fund_id, sia_encoding::specs::Spelling::spelled_u64))]
 pub fn genesis_fund_id(genesis: &Hash, index: u64) -> Hash
-    ensures { result ≡ fund_id genesis.now index }
+    ensures { result ≡ genesis_fund_id_of genesis.now index }
 {
     let mut hasher = Hasher::new();
     hasher.update(&SIAFUND_OUTPUT);

@@ -1,4 +1,4 @@
--- What the calls of a journal promise.
+-- What the calls of a journal promise over a disk whose crashes are those of POSIX's writes and syncs (sia_edge).
 use Rattle.std.specs.Prelude.{◌≡◌, ◌⊎◌, ℕ, ◌+◌, ◌^◌, ◌<◌, ◌≤◌, IsTrue, List, [], ◌∷◌, ◌++◌, length, Bool, true, false, Result, Ok, Err}
 use Rattle.sia_encoding.specs.Spelling.{spelled_bytes}
 use Rattle.sia_edge.specs.Disk.{Standing, Faulted, Only, images_of}

@@ -1,5 +1,6 @@
 -- What the bytes of a journal stand for: a header of 16 bytes, then frames, then one gate byte that isn't 1. A frame is
--- the gate byte 1, the length of a payload in 8 bytes, the lowest first, and the payload.
+-- the gate byte 1, the length of a payload in 8 bytes, the lowest first, and the payload. The form is this product's own; a
+-- payload is spelled as siad's encoding spells a byte slice.
 use Rattle.std.specs.Prelude.{◌≡◌, ℕ, zero, suc, ◌+◌, ◌-◌, ◌≤◌, ◌==◌, nat_lt, List, [], ◌∷◌, ◌++◌, length, take, drop, if◌then◌else◌, Option, Some, None, Result, Ok, Err}
 use Rattle.std.specs.List.{flat_map}
 use Rattle.std.specs.Int.{w64, from_le_bytes}

@@ -1,4 +1,4 @@
--- What an opening finds and repairs.
+-- What an opening of a journal finds and repairs, in the form of this product's own file (Listed.antt).
 use Rattle.std.specs.Prelude.{◌≡◌, ◌≢◌, ◌⊎◌, ℕ, ◌+◌, ◌<◌, ◌≤◌, Bool, IsTrue, List, [], ◌∷◌, ◌++◌, length, take, drop, Option, None, Some}
 use Rattle.sia_encoding.specs.Spelling.{spelled_bytes}
 use Rattle.sia_edge.specs.Disk.{Standing, Faulted, images_of}

@@ -7,7 +7,7 @@ ghost use Rattle.sia_ledger.specs.Answers.{block_told, genesis_told};
 ghost use Rattle.sia_ledger.specs.Chain.{height, begun, extended, shortened};
 ghost use Rattle.sia_ledger.specs.Facts.{block_facts};
 ghost use Rattle.sia_ids.specs.Identifiers.{block_id};
-ghost use Rattle.sia_ledger.specs.Holdings.{tip, block_at, sums_of};
+ghost use Rattle.sia_ledger.specs.Holdings.{tip, id_at, sums_of};
 ghost use Rattle.sia_ledger.specs.Refusal.{refusal, genesis_refusal};
 ghost use Rattle.sia_ledger.specs.Texts.{IsMadeTwice};
 
@@ -177,7 +177,7 @@ impl Ledger {
 
     /// The identifier of the block at a height, the genesis being at 0; `None` above the height of the last block.
     pub fn block_at(&self, height: u64) -> Option<Hash>
-        ensures { result ≡ block_at self.now height }
+        ensures { result ≡ id_at self.now height }
     {
         self.ids.get(height as usize).copied()
     }

@@ -3,7 +3,7 @@ use Rattle.std.proofs.Common.{◌≡◌, ℕ, ◌+◌, ◌*◌, ◌/◌, ◌%◌
 use Rattle.std.proofs.lemmas.List.{append-nil, drop_at, length-append, take_at}
 use Rattle.sia_merkle.specs.Levels.{pairs, levels_up}
 use Rattle.sia_merkle.specs.Pieces.{AreGroups}
-use Rattle.sia_merkle.specs.Roots.{leaf_count, leaf_digest, leaves_of, node_root_of, root_of}
+use Rattle.sia_merkle.specs.Roots.{leaf_digest, leaves_of, node_root_of, root_of}
 use Rattle.sia_merkle.proofs.Cuts.{length-leaf_hashes}
 use Rattle.sia_merkle.proofs.Fours.{leaves_apart}
 use Rattle.sia_merkle.proofs.Raises.{length-up, node_root_of-up}

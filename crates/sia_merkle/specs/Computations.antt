@@ -55,9 +55,9 @@ IsSized (Leaf bytes) = Unit {0}
 IsSized (Node left right) = IsSized left × IsSized right
 
 -- each of these hashes has 32 bytes
-abbrev pub AreSized : List (List ℕ) → Type 0
-AreSized [] = Unit {0}
-AreSized (hash ∷ hashes) = (length hash ≡ 32) × AreSized hashes
+abbrev pub AreHashes : List (List ℕ) → Type 0
+AreHashes [] = Unit {0}
+AreHashes (hash ∷ hashes) = (length hash ≡ 32) × AreHashes hashes
 
 -- there is such a pair, and it is a collision
 abbrev pub IsCollision : Option (List ℕ × List ℕ) → Type 0

@@ -2,7 +2,7 @@
 //! caller that wants one calls its function.
 ghost use Rattle.std.specs.Prelude.{◌≡◌, ◌≢◌, ◌+◌, ◌*◌, ◌^◌, ◌<◌, ◌≤◌, ◌++◌, ℕ, List, [], length, map, take, drop, slice_index_or};
 ghost use Rattle.std.specs.List.{All, concat, flat_map};
-ghost use Rattle.sia_merkle.specs.Computations.{AreSized, Collides};
+ghost use Rattle.sia_merkle.specs.Computations.{AreHashes, Collides};
 ghost use Rattle.sia_merkle.specs.Paths.{IsCorrect, cut_leaf, leaf_proof, leaf_tree, own_leaf_tree, path_of};
 ghost use Rattle.sia_merkle.specs.Roots.{leaf_at, leaf_count, leaves_of, node_digest, node_root_of, root_of};
 
@@ -36,6 +36,6 @@ pub fn path_goes_through_its_part()
 /// byte strings of one digest. So whoever can't find a collision has only the byte string's own leaves accepted.
 pub fn another_leaf_collides()
     ensures { (bytes root leaf : List ℕ) → (place : ℕ) → (hashes : List (List ℕ)) → place < leaf_count (length bytes) → root_of (leaves_of bytes) ≡ root
-        → AreSized hashes → IsCorrect root (length bytes) place leaf hashes → cut_leaf (length bytes) place leaf ≢ leaf_at bytes place
+        → AreHashes hashes → IsCorrect root (length bytes) place leaf hashes → cut_leaf (length bytes) place leaf ≢ leaf_at bytes place
         → Collides (own_leaf_tree bytes place) (leaf_tree (length bytes) place leaf hashes) }
 {}

@@ -75,8 +75,8 @@ fn print<S: Source, K: Sink>(
 ///
 /// - `ledger CONFIG FEED`: `config` gives the bytes of CONFIG, at most 65,536, and `input` those of FEED, at most 2^30. It
 ///   applies the feed to the chain that the configuration begins, and writes the sums to `out`.
-/// - `root FILE`: `input` gives the bytes of FILE, at most 2^30. It writes the file's Merkle root, the count of its leaves
-///   and that of its bytes to `out`. `config` isn't read.
+/// - `root FILE`: `input` gives the bytes of FILE, at most 2^30, which are hashed as they are read, 65,536 at a time. It writes
+///   the file's Merkle root, the count of its leaves and that of its bytes to `out`. `config` isn't read.
 /// - `prove FILE A B`: the same, and A and B are decimal numbers below 2^64 without sign or leading zero. It writes the
 ///   file's Merkle root, the count of its leaves, and the hashes that prove the leaves from A to B, without B, to `out`. A
 ///   range that isn't A < B ≤ the count of leaves is refused.

@@ -1,5 +1,5 @@
 //! The lines on standard error, and the statuses that go with them.
-ghost use Rattle.std.specs.Prelude.{◌≡◌, ◌≢◌, IfOk, string_bytes};
+ghost use Rattle.std.specs.Prelude.{◌≡◌, IfOk, string_bytes};
 ghost use Rattle.sia_program.specs.Answer.{Tells, TellsReason};
 ghost use Rattle.sia_program.specs.Lines.{key_text, stop_line};
 ghost use Rattle.sia_program.specs.Lines.{block_fault_text as block_fault_text_of, refusal_text as refusal_text_of};

@@ -1,11 +1,11 @@
 -- Who has a range, hashes or an update accepted that are not a list's own shows a collision.
-use Rattle.std.proofs.Common.{◌≡◌, ℕ, ◌-◌, ◌*◌, ◌^◌, ◌<◌, ◌≤◌, List, [], ◌∷◌, length, map, take, drop, refl, sym, ◌∙◌, ap, arith, inl, inr, length-drop}
+use Rattle.std.proofs.Common.{◌≡◌, ℕ, ◌-◌, ◌<◌, ◌≤◌, List, [], ◌∷◌, length, map, take, drop, refl, sym, ◌∙◌, ap, arith, inl, inr, length-drop}
 use Rattle.std.specs.Prelude.{◌⊎◌}
 use Rattle.std.proofs.lemmas.List.{length-map, length-take-le, take-map, drop-map}
-use Rattle.sia_merkle.specs.Computations.{AreSized, Tree, hash_of, Collides}
+use Rattle.sia_merkle.specs.Computations.{AreHashes, Tree, hash_of, Collides}
 use Rattle.sia_merkle.specs.Computations.Tree.{Given, Leaf, Node}
 use Rattle.sia_merkle.specs.Roots.{leaf_count, leaf_digest, leaves_of, node_root_of, root_of}
-use Rattle.sia_merkle.specs.Segments.{Segment, cover, others, places_between, segment_root, segment_roots, joined_within, Joins}
+use Rattle.sia_merkle.specs.Segments.{cover, others, places_between, segment_root, joined_within, Joins}
 use Rattle.sia_merkle.proofs.Clashes.{leaf_digest-length}
 use Rattle.sia_merkle.proofs.Cuts.{length-leaves}
 use Rattle.sia_range.specs.Ranges.{range_tree, IsRangeProof, part_between, roots_outside, own_range_tree, own_nodes_tree}
@@ -36,7 +36,7 @@ same_leaves : (leaves other : List (List ℕ)) → map Leaf leaves ≡ map Leaf 
 same_leaves leaves other same = sym (stored_leaves leaves) ∙ ap (map stored) same ∙ stored_leaves other
 
 -- hashes of 32 bytes
-pub digests_sized : (leaves : List (List ℕ)) → AreSized (map leaf_digest leaves)
+pub digests_sized : (leaves : List (List ℕ)) → AreHashes (map leaf_digest leaves)
 digests_sized [] = tt
 digests_sized (leaf ∷ leaves) = (leaf_digest-length leaf, digests_sized leaves)
 
@@ -80,7 +80,7 @@ leaves_by own leaves roots hashes tree other (inl same) = inl (sym (same_leaves 
 leaves_by own leaves roots hashes tree other (inr clash) = inr clash
 
 pub another_nodes : (list : List (List ℕ)) (root : List ℕ) (a b : ℕ) (nodes hashes : List (List ℕ)) → a < b → b ≤ length list → node_root_of list ≡ root
-    → AreSized list → AreSized nodes → AreSized hashes → IsRangeProof root (length list) a b (map Given nodes) hashes
+    → AreHashes list → AreHashes nodes → AreHashes hashes → IsRangeProof root (length list) a b (map Given nodes) hashes
     → ((nodes ≡ part_between a b list) × (hashes ≡ roots_outside list (length list) a b)) ⊎ Collides (own_nodes_tree list a b) (range_tree (length list) a b (map Given nodes) hashes)
 another_nodes list root a b nodes hashes some within is sized nodes_sized hashes_sized proof =
     let own = part_between a b list in
@@ -95,7 +95,7 @@ another_nodes list root a b nodes hashes some within is sized nodes_sized hashes
     (given_shapes own nodes counts) (own_nodes_root a b (length list) list (omega arith) within refl ∙ is ∙ sym proof.gives))
 
 pub another_range : (bytes root : List ℕ) (a b : ℕ) (leaves hashes : List (List ℕ)) → a < b → b ≤ leaf_count (length bytes) → root_of (leaves_of bytes) ≡ root
-    → AreSized hashes → IsRangeProof root (leaf_count (length bytes)) a b (map Leaf leaves) hashes
+    → AreHashes hashes → IsRangeProof root (leaf_count (length bytes)) a b (map Leaf leaves) hashes
     → ((leaves ≡ part_between a b (leaves_of bytes)) × (hashes ≡ roots_outside (map leaf_digest (leaves_of bytes)) (leaf_count (length bytes)) a b))
     ⊎ Collides (own_range_tree bytes a b) (range_tree (leaf_count (length bytes)) a b (map Leaf leaves) hashes)
 another_range bytes root a b leaves hashes some within is hashes_sized proof =

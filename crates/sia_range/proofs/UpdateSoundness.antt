@@ -4,7 +4,7 @@ use Rattle.std.proofs.Common.{◌≡◌, ℕ, ◌+◌, ◌-◌, ◌<◌, ◌≤�
 use Rattle.std.specs.Prelude.{Bool, nat_le, nat_lt, ◌⊎◌}
 use Rattle.std.proofs.lemmas.Bool.{leb-false, ltb-false}
 use Rattle.std.proofs.lemmas.List.{get_or-append_right, get_or_append_left, get_or-drop, get_or-take, length-map, length-take-le, map-append, take-map, drop-map, take_at, drop_at}
-use Rattle.sia_merkle.specs.Computations.{AreSized, hash_of, Collides}
+use Rattle.sia_merkle.specs.Computations.{AreHashes, hash_of, Collides}
 use Rattle.sia_merkle.specs.Computations.Tree.{Leaf}
 use Rattle.sia_merkle.specs.Roots.{leaf_count, leaf_digest, leaves_of, node_root_of, root_of}
 use Rattle.sia_merkle.specs.Segments.{cover, others, places_between, joined_segments_within, segment_root, JoinsSegments}
@@ -100,7 +100,7 @@ update_by bytes new a b inner outer some within fits (inl same) = inl (record {
 update_by bytes new a b inner outer some within fits (inr clash) = inr clash
 
 pub another_update : (bytes root new : List ℕ) (a b : ℕ) (inner outer : List (List ℕ)) → a < b → b ≤ leaf_count (length bytes) → leaf_count (length new) ≡ b - a → root_of (leaves_of bytes) ≡ root
-    → AreSized inner → AreSized outer → IsUpdateOf root (leaf_count (length bytes)) a b inner outer
+    → AreHashes inner → AreHashes outer → IsUpdateOf root (leaf_count (length bytes)) a b inner outer
     → IsOwnUpdate bytes new a b inner outer ⊎ Collides (own_update_tree bytes a b) (segments_tree (leaf_count (length bytes)) a b inner outer)
 another_update bytes root new a b inner outer some within fits is ins outs proof =
     let count = leaf_count (length bytes) in

@@ -1,7 +1,7 @@
 //! What an accepted proof of a range shows, and that a list's own is accepted, as laws over any lists. The functions here do
 //! nothing: their contracts are the laws, and a caller that wants one calls its function.
 ghost use Rattle.std.specs.Prelude.{◌≡◌, ◌-◌, ◌*◌, ◌<◌, ◌≤◌, ◌⊎◌, ℕ, List, length, map};
-ghost use Rattle.sia_merkle.specs.Computations.{AreSized, Collides};
+ghost use Rattle.sia_merkle.specs.Computations.{AreHashes, Collides};
 ghost use Rattle.sia_merkle.specs.Computations.Tree.{Given, Leaf};
 ghost use Rattle.sia_merkle.specs.Roots.{leaf_count, leaf_digest, leaves_of, node_root_of, root_of};
 ghost use Rattle.sia_range.specs.Ranges.{IsOwnUpdate, IsRangeProof, IsUpdateOf, own_nodes_tree, own_range_tree, own_update_tree, part_between, range_tree, replaced, roots_inside, roots_outside, segments_tree};
@@ -13,7 +13,7 @@ ghost use Rattle.sia_range.specs.Ranges.{IsOwnUpdate, IsRangeProof, IsUpdateOf, 
 /// leaf of its own.
 pub fn another_range_collides()
     ensures { (bytes root range : List ℕ) → (hashes : List (List ℕ)) → (a b : ℕ) → a < b → b ≤ leaf_count (length bytes) → root_of (leaves_of bytes) ≡ root
-        → AreSized hashes → IsRangeProof root (leaf_count (length bytes)) a b (map Leaf (leaves_of range)) hashes
+        → AreHashes hashes → IsRangeProof root (leaf_count (length bytes)) a b (map Leaf (leaves_of range)) hashes
         → ((leaves_of range ≡ part_between a b (leaves_of bytes)) × (hashes ≡ roots_outside (map leaf_digest (leaves_of bytes)) (leaf_count (length bytes)) a b))
         ⊎ Collides (own_range_tree bytes a b) (range_tree (leaf_count (length bytes)) a b (map Leaf (leaves_of range)) hashes) }
 {}
@@ -22,7 +22,7 @@ pub fn another_range_collides()
 /// the places from a to b, they and their proof are the list's own, or the two computations clash in a collision.
 pub fn other_nodes_collide()
     ensures { (list : List (List ℕ)) → (root : List ℕ) → (roots hashes : List (List ℕ)) → (a b : ℕ) → a < b → b ≤ length list → node_root_of list ≡ root
-        → AreSized list → AreSized roots → AreSized hashes → IsRangeProof root (length list) a b (map Given roots) hashes
+        → AreHashes list → AreHashes roots → AreHashes hashes → IsRangeProof root (length list) a b (map Given roots) hashes
         → ((roots ≡ part_between a b list) × (hashes ≡ roots_outside list (length list) a b))
         ⊎ Collides (own_nodes_tree list a b) (range_tree (length list) a b (map Given roots) hashes) }
 {}
@@ -32,7 +32,7 @@ pub fn other_nodes_collide()
 /// ones in place, or the two computations of the old root clash in a collision.
 pub fn another_update_collides()
     ensures { (bytes root new : List ℕ) → (inner outer : List (List ℕ)) → (a b : ℕ) → a < b → b ≤ leaf_count (length bytes) → leaf_count (length new) ≡ b - a → root_of (leaves_of bytes) ≡ root
-        → AreSized inner → AreSized outer → IsUpdateOf root (leaf_count (length bytes)) a b inner outer
+        → AreHashes inner → AreHashes outer → IsUpdateOf root (leaf_count (length bytes)) a b inner outer
         → IsOwnUpdate bytes new a b inner outer ⊎ Collides (own_update_tree bytes a b) (segments_tree (leaf_count (length bytes)) a b inner outer) }
 {}
 

@@ -1,4 +1,4 @@
--- A shelf as contracts see it: its disk, the size of a sector, and a mark for each slot.
+-- A shelf as contracts see it: its disk, the size of a sector (siad's is 4 MiB), and a mark for each slot.
 use Rattle.std.specs.Prelude.{◌≡◌, ◌≢◌, ℕ, ◌^◌, ◌<◌, ◌≤◌, Bool, true, false, List, length, map, slice_index_or, slice_set}
 use Rattle.std.specs.List.{filter, enumerate_from}
 use Rattle.sia_edge.specs.Disk.{Standing, Faulted, EachImage, Leaves}

@@ -1,4 +1,4 @@
--- Slots: equal parts of a disk, side by side from its first byte on. Each holds one sector.
+-- Slots: equal parts of a disk, side by side from its first byte on, as in siad's storage folders. Each holds one sector.
 use Rattle.std.specs.Prelude.{◌≡◌, ◌≢◌, ℕ, ◌+◌, ◌*◌, ◌^◌, ◌≤◌, List, length, take, drop}
 
 -- the sizes that a sector may have: 64 bytes times a power of 2, up to 4 MiB

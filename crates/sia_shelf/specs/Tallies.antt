@@ -1,4 +1,4 @@
--- What a shelf keeps of its marks, so that no call has to go over all of them.
+-- What a shelf keeps of its marks, so that no call has to go over all of them: this product's own book-keeping.
 use Rattle.std.specs.Prelude.{◌≡◌, ℕ, ◌<◌, ◌≤◌, List, length, count_by}
 use Rattle.sia_shelf.specs.declared.mark.Mark.{Mark}
 use Rattle.sia_shelf.specs.declared.mark.Mark.TheVariants as mark

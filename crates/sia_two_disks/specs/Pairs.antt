@@ -1,5 +1,5 @@
--- What a crash leaves of two disks: a journal's file, whose records name slots, and an image of a shelf, whose slots hold
--- sectors.
+-- What a crash leaves of two disks, in the model of POSIX's writes and syncs: a journal's file, whose records name slots, and
+-- an image of a shelf, whose slots hold sectors with the Merkle roots of the Sia whitepaper.
 use Rattle.std.specs.Prelude.{◌≡◌, ◌≢◌, ◌⊎◌, ℕ, List, length, map, slice_set, Result, Ok, Err}
 use Rattle.std.specs.List.{All, AllPairs}
 use Rattle.sia_edge.specs.Disk.{Standing, EachImage, images_of, images_since}

@@ -1,5 +1,5 @@
 //! `ledger CONFIG FEED`: the sums of the chain that a configuration and a feed make.
-ghost use Rattle.std.specs.Prelude.{◌≡◌, ◌≤◌, ◌⊎◌, ◌++◌, Err, None, Ok, IfOk, IfSome, OnOk, string_bytes};
+ghost use Rattle.std.specs.Prelude.{◌≡◌, ◌≤◌, ◌⊎◌, Err, None, Ok, IfOk, IfSome, OnOk, string_bytes};
 ghost use Rattle.sia_edge.specs.Edge.{Rose};
 ghost use Rattle.sia_encoding.specs.Answer.{Answers};
 ghost use Rattle.sia_ledger.specs.Chain.{begun};

@@ -1,0 +1,5 @@
+pub mod Bits
+pub mod FieldLaws
+pub mod Tables
+pub mod Values
+pub mod Groups
