@@ -13,6 +13,9 @@ PROMISES, STANDS_ON = "Promises", "Stands on"
 # What a file of specs/ says that serves proofs alone: its definitions aren't printed.
 INNER = "No public clause speaks of"
 
+# How a law is called that stands beside its codec: the codec has the comment.
+LAW = "_law"
+
 
 @dataclass
 class Fault:
@@ -206,7 +209,7 @@ def specs_of(crate):
         definitions = [
             Definition(defined[1], comment_above(lines, index), index + 1)
             for index, line in definition_lines(lines)
-            if (defined := DEFINED.match(line))
+            if (defined := DEFINED.match(line)) and not defined[1].endswith(LAW)
         ]
         found.append(Specs(crate, path, opening_of(lines), definitions))
     return found
@@ -218,7 +221,7 @@ def specs_faults(crate):
         if not specs.opening:
             yield Fault(specs.path, 1, "the file opens with no comment that says its idea and its public source")
         for definition in specs.definitions:
-            if not definition.comment:
+            if not definition.comment and INNER not in specs.opening:
                 yield Fault(specs.path, definition.line, f"no comment stands above `{definition.name}`")
 
 

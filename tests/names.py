@@ -50,13 +50,14 @@ def file_names():
     return names
 
 
-FUNCTION = re.compile(r"^ {4}(?:ghost |unsafe )*fn (\w+)|^ {4}ghost (\w+):", re.M)
+FUNCTION = re.compile(r"^ {4}(?:ghost |unsafe |final )*fn (\w+)|^ {4}ghost (\w+):", re.M)
 IMPL = re.compile(r"^impl\b[^{;]*?(\w+)(?:<[^{;]*>)?\s*\{\n(.*?)^\}", re.M | re.S)
 CLAUSE = re.compile(r"^\s+(?:ensures|requires) (\w+) \{", re.M)
 TYPE = re.compile(r"pub(?:\([a-z]+\))? (?:unsafe )?(?:struct|enum|trait|type) (\w+)")
 BLOCK = re.compile(r"^pub (?:unsafe )?(enum|trait) (\w+)[^{;]*\{\n(.*?)^\}", re.M | re.S)
 VARIANT = re.compile(r"^ {4}([A-Z]\w*)", re.M)
 PUBLIC = re.compile(r"^ *pub (?:const |unsafe |ghost )*(?:fn|struct|enum|trait|type|const|static|mod|macro) (\w+)", re.M)
+MACRO = re.compile(r"^macro_rules! (\w+)", re.M)
 ANY = re.compile(r"^ *(?:pub(?:\([a-z]+\))? )?(?:const |unsafe |ghost )*(?:fn|struct|enum|trait|type|const|static|mod) (\w+)", re.M)
 IMPORT = re.compile(r"^ *(?:ghost |pub )*use (?:Rattle\.)?(\w+)([^{;\n]*)(?:\{([^}]*)\})?", re.M)
 TEXT = re.compile(r'"((?:[^"\\\n]|\\.)*)"')
@@ -104,6 +105,7 @@ def public_code(name):
     found = set()
     for text in source_texts()[name]:
         found.update(PUBLIC.findall(text))
+        found.update(f"{name}!" for name in MACRO.findall(text))
         found.update(member for _, member in members(text))
     return found
 
@@ -191,7 +193,7 @@ def is_public_call(text, crate):
 def path_of(text):
     """The parts of an item's path, or none where a text is no path."""
     parts = re.sub(r"::<.*?>|\(\)$", "", text).split("::")
-    return parts if all(re.fullmatch(r"[A-Za-z_◌>=&]['\w◌>=&]*", part) for part in parts) else []
+    return parts if all(re.fullmatch(r"[A-Za-z_◌>=&]['\w◌>=&]*!?", part) for part in parts) else []
 
 
 def is_among(parts, items):

@@ -3,7 +3,7 @@
 //! `sia_bench digest FILE N` reads FILE whole, hashes it N times and prints the last digest in hexadecimal, and how many it
 //! made.
 //! `sia_bench turn THREADS N` lets so many threads take N turns each over one counter, and then N locks of std's
-//! `Mutex`, and prints how many nanoseconds each of the two took.
+//! `Mutex`, and prints how many nanoseconds each of the two took, and how many turns the counter counted.
 //! `sia_bench journal FILE N` appends N records to the journal of FILE, and prints how many nanoseconds that took, and by
 //! how many records the journal has grown.
 //! `sia_bench open FILE` opens the journal of FILE and reads all its records, and prints how many there are and how many

@@ -52,9 +52,10 @@ pub(crate) fn run<R: Files<File = File> + Print + AllocGlobal + Clock + Threads 
             println!(rt; "digests {}", digests.count)
         }
         Kernel::Turn { crew, times } => {
-            let turns = turn_nanos(rt, rt.alloc(), crew, times)?;
+            let turning = turn_nanos(rt, rt.alloc(), crew, times)?;
             let locks = lock_nanos(rt, rt.alloc(), crew, times)?;
-            println!(rt; "turn {turns}")?;
+            println!(rt; "turn {}", turning.nanos)?;
+            println!(rt; "turns {}", turning.turns)?;
             println!(rt; "mutex {locks}")
         }
         Kernel::Range { file, times } => {

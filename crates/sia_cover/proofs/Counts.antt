@@ -1,13 +1,11 @@
 -- How many places of a set there are below a place, and in a row.
-use Rattle.std.proofs.Common.{◌≡◌, ℕ, zero, suc, ◌+◌, ◌-◌, ◌^◌, ◌<◌, ◌≤◌, true, false, List, refl, sym, ◌∙◌, ap, arith, zero-add}
+use Rattle.std.proofs.Common.{◌≡◌, ℕ, zero, suc, ◌+◌, ◌-◌, ◌^◌, ◌<◌, ◌≤◌, true, false, refl, ◌∙◌, ap, arith, zero-add}
 use Rattle.std.proofs.Math.Path.{fun_ext}
-use Rattle.std.specs.Prelude.{Bool, not, cond, count_by, nat_eq, nat_le, ◌&&◌}
+use Rattle.std.specs.Prelude.{Bool, not, count_by, nat_eq, nat_le}
 use Rattle.std.specs.List.{range_with_len, list_all}
-use Rattle.std.proofs.lemmas.Bool.{le-leb}
 use Rattle.std.proofs.lemmas.Bool.Decides.{nat_tests}
-use Rattle.sia_merkle.specs.Segments.{is_covered, others, places_within}
+use Rattle.sia_merkle.specs.Segments.{is_covered, others}
 use Rattle.sia_cover.specs.Joined.{count_below}
-use Rattle.sia_cover.proofs.Covers.{power_above}
 use Rattle.sia_cover.proofs.Joins.{count_cons, count_rows}
 
 -- a place is in the set or outside

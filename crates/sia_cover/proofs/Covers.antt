@@ -1,14 +1,14 @@
 -- Laws of the cover of a set of places.
-use Rattle.std.proofs.Common.{◌≡◌, ℕ, zero, suc, ◌+◌, ◌-◌, ◌*◌, ◌^◌, ◌<◌, ◌≤◌, true, false, List, [], ◌∷◌, ◌++◌, length, refl, sym, ◌∙◌, ap, arith, min, max, length-append, append-nil, append_assoc, suc-add, zero-add, drop, length-drop}
+use Rattle.std.proofs.Common.{◌≡◌, ℕ, zero, suc, ◌+◌, ◌-◌, ◌*◌, ◌^◌, ◌<◌, ◌≤◌, true, false, List, [], ◌∷◌, ◌++◌, length, refl, sym, ◌∙◌, ap, arith, min, length-append, append-nil, append_assoc, suc-add, zero-add, drop, length-drop}
 use native.Mathlib.Nat.{pow-suc}
-use Rattle.std.specs.Prelude.{Bool, not, nat_le, ◌&&◌, ◌||◌, ◌/◌, Result, Ok, Err, OnOk}
+use Rattle.std.specs.Prelude.{Bool, nat_le, ◌&&◌, ◌/◌, Result, Ok, Err, OnOk}
 use Rattle.std.specs.List.{range_with_len, list_all}
 use Rattle.std.proofs.lemmas.List.FromFn.{length-range_with_len, get_or-range_with_len}
 use Rattle.std.proofs.lemmas.List.Folds.{list_all_at}
 use Rattle.std.proofs.Math.Bool.{and-false}
-use Rattle.std.proofs.lemmas.Bool.{le-leb, lt-leb, lt-ltb, le-ltb, leb-true, leb-false, not-true}
+use Rattle.std.proofs.lemmas.Bool.{lt-leb, leb-true, not-true}
 use Rattle.std.proofs.lemmas.List.{map-append}
-use Rattle.sia_merkle.specs.Segments.{Segment, cover, segment_root, segment_roots, cover_within, is_covered, others, places_between}
+use Rattle.sia_merkle.specs.Segments.{Segment, cover, segment_root, segment_roots, cover_within, is_covered, others}
 use Rattle.sia_merkle.proofs.Trees.{lt_pow, pow_up}
 
 pub power_above : (height : ℕ) → 0 < 2 ^ height

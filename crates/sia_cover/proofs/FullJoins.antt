@@ -1,18 +1,18 @@
 -- The join of a row with the roots of a cover, subtree by subtree.
-use Rattle.std.proofs.Common.{◌≡◌, ℕ, zero, suc, ◌+◌, ◌-◌, ◌*◌, ◌^◌, ◌<◌, ◌≤◌, true, false, List, [], ◌∷◌, length, map, take, drop, get_or, refl, sym, ◌∙◌, ap, arith, min, length-take, length-drop, zero-add}
+use Rattle.std.proofs.Common.{◌≡◌, ℕ, zero, suc, ◌+◌, ◌-◌, ◌*◌, ◌^◌, ◌<◌, ◌≤◌, true, false, List, [], ◌∷◌, length, map, take, drop, refl, sym, ◌∙◌, ap, arith, min, length-take, length-drop, zero-add}
 use native.Mathlib.Nat.{pow-suc}
 use Rattle.std.specs.Prelude.{Bool, not, count_by}
 use Rattle.std.specs.List.{range_with_len}
 use Rattle.std.proofs.lemmas.Bool.{le-leb}
 use Rattle.std.proofs.lemmas.List.{take-map, drop-map, take-take, drop-drop}
 use Rattle.sia_merkle.specs.Computations.{Tree, hash_of}
-use Rattle.sia_merkle.specs.Computations.Tree.{Given, Node}
+use Rattle.sia_merkle.specs.Computations.Tree.{Given}
 use Rattle.sia_merkle.specs.Roots.{first_hash, node_digest, tree_root}
-use Rattle.sia_merkle.specs.Segments.{cover, cover_within, is_covered, others, places_within, first_tree, joined_within}
+use Rattle.sia_merkle.specs.Segments.{cover, cover_within, is_covered, others, places_within, joined_within}
 use Rattle.sia_cover.specs.Joined.{count_below}
 use Rattle.sia_cover.proofs.Counts.{below_parts, count_all}
 use Rattle.sia_cover.proofs.Covers.{all_pass, covered_at, covered_within, cover_past, not_covered, power_above}
-use Rattle.sia_cover.proofs.Joins.{join_chosen, join_node, join_front, join_at, hash_given, hash_of_node, one_hash}
+use Rattle.sia_cover.proofs.Joins.{join_chosen, join_node, join_front, hash_given, hash_of_node, one_hash}
 use Rattle.sia_cover.proofs.OwnJoins.{root_node}
 use Rattle.sia_cover.proofs.SameCovers.{cover_any}
 

@@ -1,15 +1,15 @@
 -- Laws of the join of a set of places with the cover of the others.
 use Rattle.std.proofs.Common.{◌≡◌, ◌≢◌, ℕ, zero, suc, ◌+◌, ◌-◌, ◌*◌, ◌^◌, ◌<◌, ◌≤◌, true, false, List, [], ◌∷◌, ◌++◌, length, map, take, drop, get_or, refl, sym, ◌∙◌, ap, arith, min, suc-add, zero-add}
 use native.Mathlib.Nat.{pow-suc}
-use Rattle.std.specs.Prelude.{Bool, nat_eq, nat_le, nat_lt, count_by, cond}
+use Rattle.std.specs.Prelude.{Bool, nat_eq, nat_le, count_by, cond}
 use Rattle.std.specs.List.{range_with_len}
 use Rattle.std.proofs.lemmas.List.Sums.{sum_by-append}
-use Rattle.std.proofs.lemmas.Bool.{le-leb, lt-leb, leb-true, leb-false, ltb-true, ltb-false, eqb-true, eqb-false, not-true}
-use Rattle.std.proofs.lemmas.List.{take-take, drop-take, drop-drop, drop-map, drop_min}
+use Rattle.std.proofs.lemmas.Bool.{le-leb, lt-leb, leb-true, leb-false, eqb-true, eqb-false, not-true}
+use Rattle.std.proofs.lemmas.List.{take-take, drop-take}
 use Rattle.sia_merkle.specs.Computations.{Tree, hash_of}
 use Rattle.sia_merkle.specs.Computations.Tree.{Given, Node}
 use Rattle.sia_merkle.specs.Roots.{first_hash, node_digest, tree_root}
-use Rattle.sia_merkle.specs.Segments.{cover_within, is_covered, others, places_between, places_within, first_tree, joined_within, segment_root}
+use Rattle.sia_merkle.specs.Segments.{cover_within, is_covered, others, places_within, first_tree, joined_within}
 use Rattle.sia_merkle.proofs.Trees.{lt_pow, pow_up}
 use Rattle.sia_cover.proofs.Covers.{covered_at, past_covered}
 
@@ -162,12 +162,6 @@ pub one_hash : (hashes : List (List ℕ)) → hash_of (first_tree (map Given has
 unfolding hash_of tree_root
 one_hash [] = refl
 one_hash (hash ∷ hashes) = refl
-
--- what stands at a place
-pub one_root : (hashes : List (List ℕ)) (place : ℕ) → hash_of (first_tree (drop place (map Given hashes))) ≡ segment_root hashes 0 place
-one_root hashes place =
-    let same : place ≡ place * 2 ^ 0 = omega arith in
-    ap (λ xs. hash_of (first_tree xs)) (drop-map Given place hashes) ∙ one_hash (drop place hashes) ∙ ap (λ n. tree_root 0 (take 1 (drop n hashes))) same
 
 uncovered_by : (chosen : ℕ → Bool) (count low : ℕ) → low < count → is_covered (others chosen) count 0 low ≡ false → (here : Bool) → chosen low ≡ here → chosen low ≡ true
 uncovered_by chosen count low within e true h = h

@@ -1,5 +1,5 @@
 -- What the checks of a join answer.
-use Rattle.std.proofs.Common.{◌≡◌, ◌≢◌, ℕ, ◌<◌, true, false, List, length, map, refl, sym, ◌∙◌, ap}
+use Rattle.std.proofs.Common.{◌≡◌, ℕ, List, length, map, refl, sym, ◌∙◌}
 use Rattle.std.specs.Prelude.{Bool, nat_eq, IsTrue, ◌↔◌}
 use Rattle.std.specs.Cmp.Lexicographic.{pointwise, same_text}
 use Rattle.std.proofs.lemmas.List.{length-map}
@@ -9,13 +9,6 @@ use Rattle.sia_merkle.specs.Segments.{cover, others, joined_within, joined_segme
 use Rattle.sia_merkle.proofs.Climbs.{one_text}
 use Rattle.sia_cover.specs.Joined.{JoinTo, SegmentsJoinTo, count_below}
 
-pub misplaced : (chosen : ℕ → Bool) (count : ℕ) (inner outer : List (List ℕ)) (root : List ℕ) → length inner ≢ count_below chosen count → IsTrue false ↔ JoinTo chosen count (map Given inner) outer root
-misplaced chosen count inner outer root apart =
-    ((λ yes. absurd (let no : false ≡ true = yes in cc)), (λ join. absurd (apart (sym (length-map inner Given) ∙ join.0.places))))
-
-pub uncovered : (chosen : ℕ → Bool) (count : ℕ) (inner outer : List (List ℕ)) (root : List ℕ) → length outer ≢ length (cover (others chosen) count) → IsTrue false ↔ JoinTo chosen count (map Given inner) outer root
-uncovered chosen count inner outer root apart = ((λ yes. absurd (let no : false ≡ true = yes in cc)), (λ join. absurd (apart join.0.segments)))
-
 pub judged : (chosen : ℕ → Bool) (count : ℕ) (inner outer : List (List ℕ)) (root found : List ℕ) (answer : Bool) → length inner ≡ count_below chosen count → length outer ≡ length (cover (others chosen) count)
     → found ≡ hash_of (joined_within chosen count count 0 (map Given inner) outer) → answer ≡ pointwise nat_eq found root → IsTrue answer ↔ JoinTo chosen count (map Given inner) outer root
 judged chosen count inner outer root found answer places segments is told = (
@@ -24,12 +17,6 @@ judged chosen count inner outer root found answer places segments is told = (
 )
 
 -- the same of the roots of both covers
-pub misplaced_inner : (chosen : ℕ → Bool) (count : ℕ) (inner outer : List (List ℕ)) (root : List ℕ) → length inner ≢ length (cover chosen count) → IsTrue false ↔ SegmentsJoinTo chosen count inner outer root
-misplaced_inner chosen count inner outer root apart = ((λ yes. absurd (let no : false ≡ true = yes in cc)), (λ join. absurd (apart join.0.places)))
-
-pub misplaced_outer : (chosen : ℕ → Bool) (count : ℕ) (inner outer : List (List ℕ)) (root : List ℕ) → length outer ≢ length (cover (others chosen) count) → IsTrue false ↔ SegmentsJoinTo chosen count inner outer root
-misplaced_outer chosen count inner outer root apart = ((λ yes. absurd (let no : false ≡ true = yes in cc)), (λ join. absurd (apart join.0.segments)))
-
 pub judged_segments : (chosen : ℕ → Bool) (count : ℕ) (inner outer : List (List ℕ)) (root found : List ℕ) (answer : Bool) → length inner ≡ length (cover chosen count) → length outer ≡ length (cover (others chosen) count)
     → found ≡ hash_of (joined_segments_within chosen count count 0 inner outer) → answer ≡ pointwise nat_eq found root → IsTrue answer ↔ SegmentsJoinTo chosen count inner outer root
 judged_segments chosen count inner outer root found answer places segments is told = (

@@ -1,20 +1,18 @@
 -- What a whole list's own hashes join to, at any places and at those of a range.
-use Rattle.std.proofs.Common.{◌≡◌, ℕ, zero, suc, ◌+◌, ◌-◌, ◌*◌, ◌^◌, ◌<◌, ◌≤◌, true, false, List, [], ◌∷◌, ◌++◌, length, map, take, drop, get_or, refl, sym, ◌∙◌, ap, arith, min, append-nil}
+use Rattle.std.proofs.Common.{◌≡◌, ℕ, zero, suc, ◌+◌, ◌-◌, ◌*◌, ◌^◌, ◌<◌, ◌≤◌, true, false, List, [], ◌∷◌, length, map, take, drop, get_or, refl, sym, ◌∙◌, ap, arith, min}
 use Rattle.std.specs.Prelude.{Bool}
 use Rattle.std.specs.List.{range_with_len, filter}
-use Rattle.std.proofs.lemmas.Bool.{le-leb, lt-leb, le-ltb, lt-ltb}
 use Rattle.std.proofs.lemmas.List.{length-map, take_all, drop_more}
 use Rattle.std.proofs.lemmas.List.Sums.{length-filter}
 use Rattle.std.proofs.lemmas.Simd.{map-map}
-use Rattle.std.proofs.Math.Bool.{and-false}
 use Rattle.sia_merkle.specs.Computations.{hash_of}
 use Rattle.sia_merkle.specs.Computations.Tree.{Given}
 use Rattle.sia_merkle.specs.Roots.{first_hash, node_root_of, tree_root}
-use Rattle.sia_merkle.specs.Segments.{cover, others, places_between, joined_within, segment_root, segment_roots, Joins}
+use Rattle.sia_merkle.specs.Segments.{cover, others, joined_within, segment_root, segment_roots, Joins}
 use Rattle.sia_merkle.proofs.Trees.{lt_pow}
 use Rattle.sia_cover.proofs.Covers.{cover_none, past_covered}
-use Rattle.sia_cover.proofs.Joins.{range_parts, hash_given}
-use Rattle.sia_cover.proofs.OwnJoins.{own_within, own_join, filter_append}
+use Rattle.sia_cover.proofs.Joins.{hash_given}
+use Rattle.sia_cover.proofs.OwnJoins.{own_within, own_join}
 
 -- the hashes of a list at the chosen places, in order
 abbrev pub own_hashes : (ℕ → Bool) → List (List ℕ) → List (List ℕ)

@@ -1,15 +1,14 @@
 -- Laws of the join of the roots of both covers.
-use Rattle.std.proofs.Common.{◌≡◌, ◌≢◌, ℕ, zero, suc, ◌+◌, ◌^◌, ◌<◌, ◌≤◌, true, false, List, length, take, drop, refl, sym, ◌∙◌, ap, arith, suc-add, zero-add}
+use Rattle.std.proofs.Common.{◌≡◌, ℕ, zero, suc, ◌+◌, ◌^◌, ◌<◌, ◌≤◌, true, false, List, length, take, drop, refl, sym, ◌∙◌, ap, arith, suc-add, zero-add}
 use native.Mathlib.Nat.{pow-suc}
-use Rattle.std.specs.Prelude.{Bool, nat_eq, IsTrue, ◌↔◌}
-use Rattle.std.specs.Cmp.Lexicographic.{pointwise, same_text}
+use Rattle.std.specs.Prelude.{Bool}
 use Rattle.std.proofs.lemmas.Bool.{le-leb, lt-leb, not-true}
 use Rattle.sia_merkle.specs.Computations.{hash_of}
 use Rattle.sia_merkle.specs.Computations.Tree.{Given, Node}
 use Rattle.sia_merkle.specs.Roots.{first_hash, node_digest}
-use Rattle.sia_merkle.specs.Segments.{cover, cover_within, is_covered, others, places_between, joined_segments_within}
+use Rattle.sia_merkle.specs.Segments.{cover_within, is_covered, others, joined_segments_within}
 use Rattle.sia_merkle.proofs.Trees.{lt_pow, pow_up}
-use Rattle.sia_cover.proofs.Covers.{covered_at, cover_at, past_covered}
+use Rattle.sia_cover.proofs.Covers.{covered_at, past_covered}
 use Rattle.sia_cover.proofs.Joins.{hash_of_node}
 
 -- the join, case by case

@@ -1,15 +1,13 @@
 -- How many touched and new places there are below a place.
-use Rattle.std.proofs.Common.{◌≡◌, ℕ, zero, suc, ◌+◌, ◌-◌, ◌^◌, ◌<◌, ◌≤◌, true, false, List, [], ◌++◌, length, get_or, refl, sym, ◌∙◌, ap, arith, min, zero-add, length-append}
-use Rattle.std.specs.Prelude.{Bool, ◌&&◌, cond, count_by, nat_le, nat_lt, nat_eq}
-use Rattle.std.specs.List.{range_with_len, list_all, filter}
+use Rattle.std.proofs.Common.{◌≡◌, ℕ, zero, suc, ◌+◌, ◌-◌, ◌<◌, ◌≤◌, true, false, List, [], ◌++◌, length, get_or, refl, sym, ◌∙◌, ap, arith, zero-add, length-append}
+use Rattle.std.specs.Prelude.{Bool, cond, count_by, nat_lt}
+use Rattle.std.specs.List.{range_with_len, filter}
 use Rattle.std.specs.List.Sorted.{IsPartitionedBy, IsPartitionPoint}
 use Rattle.std.proofs.lemmas.Bool.{le-leb, lt-leb, lt-ltb, le-ltb, ltb-true, ltb-false}
-use Rattle.std.proofs.lemmas.Bool.Decides.{nat_tests}
 use Rattle.std.proofs.lemmas.List.{get_or_append_left, get_or-append_right}
 use Rattle.std.proofs.lemmas.List.Elements.{filter-append}
 use Rattle.std.proofs.lemmas.List.Sums.{length-filter, count_by-le-length}
 use Rattle.std.proofs.lemmas.List.FromFn.{length-range_with_len}
-use Rattle.sia_merkle.specs.Segments.{is_covered, others, places_within}
 use Rattle.sia_cover.proofs.Counts.{below_parts, count_all}
 use Rattle.sia_cover.proofs.Joins.{count_cons, count_rows, range_parts}
 use Rattle.sia_diff.specs.Chosen.{ArePlaces, is_listed, is_chosen}

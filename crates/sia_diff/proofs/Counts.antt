@@ -1,11 +1,10 @@
 -- How often places are touched, step by step.
 use Rattle.std.proofs.Common.{◌≡◌, ℕ, zero, suc, ◌+◌, ◌<◌, ◌≤◌, true, false, List, [], ◌∷◌, ◌++◌, length, drop, get_or, refl, sym, ◌∙◌, ap, arith, min, max, zero-add, length-drop, append-nil}
-use Rattle.std.specs.Prelude.{Bool, ◌&&◌, cond, count_by}
+use Rattle.std.specs.Prelude.{Bool, ◌&&◌, cond}
 use Rattle.std.specs.List.{range_with_len, list_all, filter}
 use Rattle.std.proofs.lemmas.Bool.Decides.{nat_tests}
 use Rattle.std.proofs.lemmas.List.{drop_more}
 use Rattle.std.proofs.lemmas.List.Elements.{filter-append}
-use Rattle.std.proofs.lemmas.List.Sums.{sum_by-append}
 use Rattle.sia_merkle.specs.Segments.{places_between}
 use Rattle.sia_cover.proofs.Joins.{count_cons, range_parts}
 use Rattle.sia_diff.specs.declared.steps.DiffStep.{DiffStep}

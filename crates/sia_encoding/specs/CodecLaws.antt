@@ -1,4 +1,5 @@
--- Readings that give back what a spelling writes, and how larger ones are made of smaller ones.
+-- Readings that give back what a spelling writes, and how larger ones are made of smaller ones. No public
+-- clause speaks of these lemmas; they stand here since the laws of records are made of them.
 use Rattle.std.proofs.Common.{◌≡◌, ℕ, ◌+◌, ◌<◌, ◌≤◌, Bool, true, false, List, [], ◌++◌, length, nat_lt, if◌then◌else◌, IfOk, Result, Ok, Err, refl, sym, ap, subst, ◌∙◌, append_assoc, length-append, add_assoc, arith}
 use Rattle.std.proofs.Math.Seq.{drop-append_seam, take-append_seam}
 use Rattle.std.proofs.lemmas.Bool.{le-ltb, ltb-false}

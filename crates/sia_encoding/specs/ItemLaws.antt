@@ -1,4 +1,5 @@
--- The items' own laws.
+-- The items' own laws. No public clause speaks of these lemmas; they stand here since the laws of records are made of
+-- them.
 use Rattle.std.proofs.Common.{◌≡◌, ℕ, zero, suc, ◌+◌, ◌*◌, ◌/◌, ◌%◌, ◌^◌, ◌<◌, ◌≤◌, ◌==◌, Bool, true, false, List, [], ◌∷◌, ◌++◌, length, get_or, slice_index, nat_lt, if◌then◌else◌, All, IfOk, Result, Ok, refl, sym, ap, subst, ◌∙◌, append_assoc, length-append, arith}
 use Rattle.std.specs.Int.{w64, to_le_bytes, from_le_bytes}
 use Rattle.std.specs.Int.Digits.{digits_of, number_from_digits}

@@ -1,4 +1,5 @@
 pub mod Answer
+pub mod Firsts
 pub mod Spelling
 pub mod Reading
 pub mod Codec

@@ -1,4 +1,5 @@
--- The laws of codecs that are made of others: where those give back what they spell, so do these.
+-- The laws of codecs that are made of others: where those give back what they spell, so do these. No public
+-- clause speaks of these lemmas; they stand here since the laws of records are made of them.
 use Rattle.std.proofs.Common.{◌≡◌, ℕ, ◌+◌, Bool, true, false, List, ◌++◌, length, Option, Some, None, IfOk, Result, Ok, refl, sym, ap, subst, ◌∙◌, append_assoc, length-append, arith}
 use Rattle.sia_encoding.specs.declared.fault.DecodeFault.{DecodeFault}
 use Rattle.sia_encoding.specs.Spelling.{spelled_bool}

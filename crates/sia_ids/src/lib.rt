@@ -13,8 +13,6 @@
 //!
 //! # Promises
 //!
-//! The one error is want of memory. Calls that answer no `Result` take none.
-//!
 //! - [`block_id`] is the digest of the block's header: parent, nonce, timestamp, and the Merkle root over its payouts.
 //!   [`payout_id`] is that of the block's identifier and the index of the payout.
 //! - [`tx_id`] is the digest of a transaction without its signatures; [`coin_id`], [`fund_id`] and [`contract_id`] that of
@@ -26,6 +24,8 @@
 //! - [`unlock_hash`] is the Merkle root over the timelock, the keys and the number of required keys.
 //! - [`segment_index`] is the first 8 bytes of the digest of its two identifiers, as a number, modulo the count, and so
 //!   below it.
+//!
+//! The one error is want of memory. Calls that answer no `Result` take none.
 //!
 //! # Stands on
 //!

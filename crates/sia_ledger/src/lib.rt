@@ -11,8 +11,6 @@
 //!
 //! # Promises
 //!
-//! Want of memory is the one answer that no clause ties to a cause.
-//!
 //! - [`Ledger::genesis`] begins a chain from [`Params`], or answers exactly the first thing that is wrong with them.
 //! - [`Ledger::check_block`] and [`Ledger::apply`] refuse a block exactly with the first rule that it breaks: its parent is
 //!   the tip, its height is below 2^32, its payouts are above 0 and sum to the subsidy, and no identifier is made a second
@@ -22,6 +20,8 @@
 //! - [`Ledger::sums`], [`Ledger::tip`] and [`Ledger::block_at`] are those of the present chain. What is live, in escrow and
 //!   unclaimed together is what was issued.
 //! - [`Ledger::check_block`] and [`Ledger::apply`] count one step each, [`Ledger::revert`] none.
+//!
+//! Want of memory is the one answer that no clause ties to a cause.
 //!
 //! # Stands on
 //!

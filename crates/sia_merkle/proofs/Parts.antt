@@ -1,5 +1,5 @@
 -- A tree over the roots of whole parts, of 2 ^ level hashes each, and the tree over all their hashes.
-use Rattle.std.proofs.Common.{◌≡◌, ℕ, zero, suc, ◌+◌, ◌-◌, ◌*◌, ◌^◌, ◌<◌, ◌≤◌, true, false, List, [], ◌∷◌, ◌++◌, length, map, take, drop, get_or, refl, sym, ◌∙◌, ap, arith, length-append, length-take, length-drop, append_assoc, append-nil, suc-add}
+use Rattle.std.proofs.Common.{◌≡◌, ℕ, zero, suc, ◌+◌, ◌-◌, ◌*◌, ◌^◌, ◌<◌, ◌≤◌, true, false, List, [], ◌∷◌, ◌++◌, length, map, take, drop, get_or, refl, sym, ◌∙◌, ap, arith, length-append, length-drop, append_assoc, append-nil, suc-add}
 use native.Mathlib.Nat.{pow-suc}
 use Rattle.std.specs.Prelude.{Bool, nat_le, nat_lt}
 use Rattle.std.specs.List.{All, concat, flat_map, range_with_len}
@@ -11,14 +11,14 @@ use Rattle.std.proofs.Math.Nat.{mul-le-mul_right}
 use Rattle.std.proofs.lemmas.Nat.{pow-add}
 use Rattle.std.proofs.lemmas.Simd.{map-map}
 use Rattle.sia_merkle.specs.Levels.{levels_up, pairs}
-use Rattle.sia_merkle.specs.Paths.{Side, sides, path_of, hashes_beside, leaf_proof}
+use Rattle.sia_merkle.specs.Paths.{sides, path_of, hashes_beside, leaf_proof}
 use Rattle.sia_merkle.specs.Paths.Side.{Left, Right}
 use Rattle.sia_merkle.specs.Roots.{leaf_at, leaf_count, leaf_digest, leaves_of, node_root_of, root_of, tree_root}
 use Rattle.sia_merkle.proofs.Beside.{beside-low, beside-left, beside-right, leaf_proof-at}
 use Rattle.sia_merkle.proofs.Climbs.{sides-low, sides-left, sides-right, path_of-at}
 use Rattle.sia_merkle.proofs.Cuts.{leaves-take, leaves-drop, length-leaf_hashes}
 use Rattle.sia_merkle.proofs.Raises.{up-append, one_up, node_root_of-up}
-use Rattle.sia_merkle.proofs.Trees.{lt_pow, pow_up, node_root_of-at}
+use Rattle.sia_merkle.proofs.Trees.{lt_pow, node_root_of-at}
 
 -- one leaf alone
 pub one_leaf : (bytes : List ℕ) → 0 < length bytes → length bytes ≤ 64 → root_of (leaves_of bytes) ≡ leaf_digest bytes

@@ -1,11 +1,11 @@
 -- The groups of a byte string, one after another.
-use Rattle.std.proofs.Common.{◌≡◌, ℕ, zero, suc, ◌+◌, ◌-◌, ◌*◌, ◌<◌, ◌≤◌, List, [], ◌∷◌, ◌++◌, length, take, drop, replicate, refl, sym, ◌∙◌, ap, arith, add-one}
+use Rattle.std.proofs.Common.{◌≡◌, ℕ, zero, suc, ◌+◌, ◌-◌, ◌*◌, ◌<◌, ◌≤◌, List, [], ◌∷◌, ◌++◌, length, take, drop, sym, ◌∙◌, ap, arith}
 use Rattle.std.specs.Int.{div_ceil}
 use Rattle.std.specs.List.{range_with_len}
 use Rattle.std.proofs.lemmas.Grind.{div_ceil_times}
 use Rattle.std.proofs.lemmas.List.{drop-drop, map-append}
 use Rattle.std.proofs.Math.Nat.{zero-mul, mul-le-mul_right, add-mul, one-mul}
-use Rattle.sia_pieces.specs.Pieces.{filled, first_groups, groups, values_at, value}
+use Rattle.sia_pieces.specs.Pieces.{filled, first_groups, values_at, value}
 use Rattle.sia_pieces.proofs.Values.{value_of_filled}
 
 -- one group more
@@ -17,8 +17,8 @@ groups_more (suc t) k bytes =
     let start : k + t * k ≡ suc t * k = omega arith in
     ap (λ n. first_groups n k bytes) count
     ∙ ap (λ gs. filled k (take k bytes) ∷ gs)
-      (groups_more t k (drop k bytes)
-        ∙ ap (λ rest. first_groups t k (drop k bytes) ++ filled k (take k rest) ∷ []) (drop-drop (t * k) k bytes ∙ ap (λ n. drop n bytes) start))
+    (groups_more t k (drop k bytes)
+    ∙ ap (λ rest. first_groups t k (drop k bytes) ++ filled k (take k rest) ∷ []) (drop-drop (t * k) k bytes ∙ ap (λ n. drop n bytes) start))
 
 -- each group begins within the bytes
 pub starts_within : (t n k : ℕ) → 0 < k → t < div_ceil n k → t * k < n

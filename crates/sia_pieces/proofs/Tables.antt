@@ -1,10 +1,10 @@
 -- What the tables of the code hold: the powers of x, and the exponent of each element but 0.
-use Rattle.std.proofs.Common.{◌≡◌, ℕ, zero, suc, ◌+◌, ◌-◌, ◌%◌, ◌<◌, ◌≤◌, ◌⊎◌, inl, inr, Bool, true, ◌&&◌, List, [], ◌∷◌, length, get_or, refl, sym, ◌∙◌, ap, subst, arith, nat_eq, nat_lt}
+use Rattle.std.proofs.Common.{◌≡◌, ℕ, zero, suc, ◌+◌, ◌-◌, ◌%◌, ◌<◌, inl, inr, Bool, true, ◌&&◌, List, [], ◌∷◌, length, get_or, refl, sym, ◌∙◌, ap, subst, arith, nat_eq, nat_lt}
 use Rattle.std.proofs.lemmas.Bool.{agree_below_at, and_parts, cases_lt, eqb-true, ltb-true}
 use Rattle.sia_pieces.specs.Field.{polynomial_product, remainder, product, power}
 use Rattle.sia_pieces.specs.declared.field.TheConstants.{POWERS, EXPONENTS}
 use Rattle.sia_pieces.proofs.Bits.{all_below}
-use Rattle.sia_pieces.proofs.FieldLaws.{product_comm, product_assoc, one-product, power_lt, power_of_sum}
+use Rattle.sia_pieces.proofs.FieldLaws.{product_comm, one-product, power_lt, power_of_sum}
 
 -- whether a list is an element and its products with x, one after another
 are_powers : List ℕ → ℕ → Bool

@@ -4,7 +4,6 @@ use Rattle.std.proofs.lemmas.Nat.{xor_of_8}
 use Rattle.sia_pieces.specs.Field.{product, power}
 use Rattle.sia_pieces.specs.Pieces.{sum_of_terms, value}
 use Rattle.sia_pieces.proofs.FieldLaws.{product_of_sum, product_lt, product-zero, zero-product, one-product, product_comm, product_assoc, power_lt}
-use lib.Bits.{xor_zero_r}
 
 -- each one is an element
 abbrev pub AreElements : List ℕ → Type 0
@@ -26,7 +25,7 @@ unfolding sum_of_terms power
 terms_of_next [] x n hx all = sym (product-zero x)
 terms_of_next (d ∷ ds) x n hx all =
     rw (terms_of_next ds x (suc n) hx (other_elements d ds all), swapped_factors d x (power x n) (first_element d ds all) hx (power_lt x n hx))
-      (sym (product_of_sum x (product d (power x n)) (sum_of_terms ds x (suc n))))
+    (sym (product_of_sum x (product d (power x n)) (sum_of_terms ds x (suc n))))
 
 -- the value by the first coefficient and the value of the others
 pub value_of_more : (d : ℕ) (ds : List ℕ) (x : ℕ) → x < 256 → AreElements (d ∷ ds) → value (d ∷ ds) x ≡ bit_xor d (product x (value ds x))
@@ -41,7 +40,7 @@ unfolding sum_of_terms
 value_lt [] x hx all = omega arith
 value_lt (d ∷ ds) x hx all =
     rw (value_of_more d ds x hx all)
-      (xor_of_8 d (product x (value ds x)) (first_element d ds all) (product_lt x (value ds x) hx (value_lt ds x hx (other_elements d ds all))))
+    (xor_of_8 d (product x (value ds x)) (first_element d ds all) (product_lt x (value ds x) hx (value_lt ds x hx (other_elements d ds all))))
 
 pub dropped_elements : (ds : List ℕ) (i : ℕ) → AreElements ds → AreElements (drop i ds)
 dropped_elements ds zero all = all
@@ -53,7 +52,6 @@ pub value_from : (ds : List ℕ) (i x : ℕ) → x < 256 → AreElements ds → 
 value_from ds i x hx all lt =
     let from : AreElements (get_or ds i 0 ∷ drop (suc i) ds) = subst AreElements (drop-cons ds i 0 lt) (dropped_elements ds i all) in
     rw (add-one i, drop-cons ds i 0 lt) (value_of_more (get_or ds i 0) (drop (suc i) ds) x hx from)
-
 
 -- a step from the last coefficient down
 pub value_step : (ds : List ℕ) (i x sum : ℕ) → x < 256 → AreElements ds → 0 < i → i ≤ length ds → sum ≡ value (drop i ds) x → bit_xor (get_or ds (i - 1) 0) (product x sum) ≡ value (drop (i - 1) ds) x

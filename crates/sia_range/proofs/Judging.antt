@@ -1,22 +1,21 @@
 -- What the checks of a range answer.
-use Rattle.std.proofs.Common.{◌≡◌, ◌≢◌, ℕ, zero, suc, ◌+◌, ◌-◌, ◌*◌, ◌^◌, ◌<◌, ◌≤◌, true, false, List, [], ◌∷◌, length, map, take, drop, refl, sym, ◌∙◌, ap, arith, min, length-take}
-use Rattle.std.specs.Prelude.{Bool, nat_eq, nat_le, IsTrue, ◌↔◌, count_by}
+use Rattle.std.proofs.Common.{◌≡◌, ℕ, zero, suc, ◌+◌, ◌-◌, ◌*◌, ◌^◌, ◌<◌, ◌≤◌, true, false, List, [], ◌∷◌, length, map, take, drop, refl, sym, ◌∙◌, ap, arith, min, length-take}
+use Rattle.std.specs.Prelude.{Bool, nat_le, ◌↔◌, count_by}
 use Rattle.std.specs.List.{range_with_len}
-use Rattle.std.specs.Cmp.Lexicographic.{pointwise, same_text, other_text}
 use Rattle.std.proofs.lemmas.Bool.{leb-true, leb-false}
 use Rattle.std.proofs.lemmas.List.{length-map, take-map, drop-map, take_min}
 use Rattle.sia_merkle.specs.Computations.{Tree, hash_of}
 use Rattle.sia_merkle.specs.Computations.Tree.{Given, Leaf}
 use Rattle.sia_merkle.specs.Roots.{first_hash, leaf_count, leaf_digest, leaves_of, node_digest, node_root_of, root_of, tree_root}
-use Rattle.sia_merkle.specs.Segments.{cover, cover_within, is_covered, others, places_between, places_within, first_tree, joined_within, joined_segments_within}
+use Rattle.sia_merkle.specs.Segments.{cover_within, is_covered, others, places_between, places_within, first_tree, joined_within, joined_segments_within}
 use Rattle.sia_merkle.proofs.Cuts.{hashes-drop}
 use Rattle.sia_merkle.proofs.Trees.{node_root_of-at}
 use Rattle.sia_range.specs.Ranges.{range_tree, segments_tree, IsRangeProof, IsUpdateOf}
 use Rattle.sia_cover.specs.Joined.{JoinTo, SegmentsJoinTo}
 use Rattle.sia_range.proofs.ByteLeaves.{front}
 use Rattle.sia_range.proofs.RangePlaces.{count_between}
-use Rattle.sia_cover.proofs.Covers.{cover_at, power_above}
-use Rattle.sia_cover.proofs.Joins.{join_at, join_given, join_low, join_node, hash_of_node}
+use Rattle.sia_cover.proofs.Covers.{power_above}
+use Rattle.sia_cover.proofs.Joins.{join_given, join_low, join_node, hash_of_node}
 
 pub joined_is : (count a b : ℕ) (inner : List Tree) (outer : List (List ℕ)) → range_tree count a b inner outer ≡ joined_within (places_between a b) count count 0 inner outer
 unfolding range_tree

@@ -1,5 +1,5 @@
 -- The places of a range.
-use Rattle.std.proofs.Common.{◌≡◌, ℕ, zero, suc, ◌+◌, ◌-◌, ◌^◌, ◌<◌, ◌≤◌, true, false, List, [], ◌∷◌, ◌++◌, length, map, take, drop, get_or, refl, sym, ◌∙◌, ap, arith, min, append-nil}
+use Rattle.std.proofs.Common.{◌≡◌, ℕ, zero, suc, ◌+◌, ◌-◌, ◌<◌, ◌≤◌, true, false, List, [], ◌∷◌, ◌++◌, length, map, take, drop, get_or, refl, sym, ◌∙◌, ap, arith, min, append-nil}
 use Rattle.std.specs.Prelude.{Bool, nat_le, nat_lt, count_by}
 use Rattle.std.specs.List.{range_with_len, filter}
 use Rattle.std.proofs.Math.Bool.{and-false}

@@ -1,11 +1,11 @@
 -- Who has a range, hashes or an update accepted that are not a list's own shows a collision.
-use Rattle.std.proofs.Common.{◌≡◌, ℕ, ◌-◌, ◌*◌, ◌^◌, ◌<◌, ◌≤◌, List, [], ◌∷◌, length, map, take, drop, refl, sym, ◌∙◌, ap, arith, inl, inr, length-drop}
+use Rattle.std.proofs.Common.{◌≡◌, ℕ, ◌-◌, ◌<◌, ◌≤◌, List, [], ◌∷◌, length, map, take, drop, refl, sym, ◌∙◌, ap, arith, inl, inr, length-drop}
 use Rattle.std.specs.Prelude.{◌⊎◌}
 use Rattle.std.proofs.lemmas.List.{length-map, length-take-le, take-map, drop-map}
 use Rattle.sia_merkle.specs.Computations.{AreHashes, Tree, hash_of, Collides}
 use Rattle.sia_merkle.specs.Computations.Tree.{Given, Leaf, Node}
 use Rattle.sia_merkle.specs.Roots.{leaf_count, leaf_digest, leaves_of, node_root_of, root_of}
-use Rattle.sia_merkle.specs.Segments.{Segment, cover, others, places_between, segment_root, segment_roots, joined_within, Joins}
+use Rattle.sia_merkle.specs.Segments.{cover, others, places_between, segment_root, joined_within, Joins}
 use Rattle.sia_merkle.proofs.Clashes.{leaf_digest-length}
 use Rattle.sia_merkle.proofs.Cuts.{length-leaves}
 use Rattle.sia_range.specs.Ranges.{range_tree, IsRangeProof, part_between, roots_outside, own_range_tree, own_nodes_tree}

@@ -1,6 +1,6 @@
 -- Proofs of a range of places under the root of a tree: what stands at the places, and the roots of the largest subtrees
 -- that cover all other places (RHP2; `merkletree.BuildRangeProof` of Sia's Go library).
-use Rattle.std.specs.Prelude.{ℕ, ◌-◌, ◌≡◌, Bool, List, ◌++◌, length, map, take, drop}
+use Rattle.std.specs.Prelude.{ℕ, ◌-◌, ◌≡◌, List, ◌++◌, length, map, take, drop}
 use Rattle.sia_merkle.specs.Computations.{Tree, hash_of}
 use Rattle.sia_merkle.specs.Computations.Tree.{Given, Leaf}
 use Rattle.sia_merkle.specs.Roots.{leaf_count, leaf_digest, leaves_of, root_of}

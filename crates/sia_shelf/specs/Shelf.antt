@@ -71,8 +71,8 @@ abbrev pub DiskFault : Standing → Standing → ShelfFault → Type 0
 DiskFault old new cause = (cause ≡ fault.Disk) × Faulted old new
 
 -- Why a read answers a fault: the disk's count rose, or memory was short, or the disk ends before the slot does.
-abbrev pub ReadCause : Standing → Standing → ℕ → ℕ → ShelfFault → Type 0
-ReadCause old new sector slot fault.Memory = Unit {0}
-ReadCause old new sector slot fault.Disk = Faulted old new
-ReadCause old new sector slot fault.Full = ⊥
-ReadCause old new sector slot (fault.Short at) = (at ≡ slot) × (length old.seen < end_of sector slot)
+abbrev pub SlotCause : Standing → Standing → ℕ → ℕ → ShelfFault → Type 0
+SlotCause old new sector slot fault.Memory = Unit {0}
+SlotCause old new sector slot fault.Disk = Faulted old new
+SlotCause old new sector slot fault.Full = ⊥
+SlotCause old new sector slot (fault.Short at) = (at ≡ slot) × (length old.seen < end_of sector slot)

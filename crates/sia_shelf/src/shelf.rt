@@ -2,7 +2,7 @@
 ghost use Rattle.std.specs.Prelude.{◌≡◌, ◌≢◌, ◌↔◌, ◌++◌, ℕ, ◌+◌, ◌*◌, ◌^◌, ◌<◌, ◌≤◌, List, IsTrue, false, IfOk, IfErr, OnOk, OnErr, Err, length, map, max, take, drop, replicate, vec_len, vec_capacity};
 ghost use Rattle.sia_edge.specs.Disk.{Changes, EachImage, IsSettled, Quiet};
 ghost use Rattle.sia_shelf.specs.Slots.{IsSectorSize, Has, KeepsOthers, end_of, slot_of};
-ghost use Rattle.sia_shelf.specs.Shelf.{ShelfState, IsFirstFree, mark_of, with_mark, free_slots, settled, KeepsLive, DiskFault, ReadCause};
+ghost use Rattle.sia_shelf.specs.Shelf.{ShelfState, IsFirstFree, mark_of, with_mark, free_slots, settled, KeepsLive, DiskFault, SlotCause};
 
 use crate::fault::{ShelfFault, done};
 use crate::mark::Mark;
@@ -138,7 +138,7 @@ impl<D: Disk> Shelf<D> {
         ensures marks { self.new.marks ≡ self.old.marks }
         ensures sector { self.new.sector ≡ self.old.sector }
         ensures quiet { Quiet (D.standing self.old.disk) (D.standing self.new.disk) }
-        ensures cause { IfErr result (ReadCause (D.standing self.old.disk) (D.standing self.new.disk) self.old.sector slot) }
+        ensures cause { IfErr result (SlotCause (D.standing self.old.disk) (D.standing self.new.disk) self.old.sector slot) }
     {
         let mut bytes = mem::replace(out, Blob::new(alloc)).into_vec();
         let read = self.read_onto(slot, &mut bytes);
@@ -157,7 +157,7 @@ impl<D: Disk> Shelf<D> {
         ensures marks { self.new.marks ≡ self.old.marks }
         ensures sector { self.new.sector ≡ self.old.sector }
         ensures quiet { Quiet (D.standing self.old.disk) (D.standing self.new.disk) }
-        ensures cause { IfErr result (ReadCause (D.standing self.old.disk) (D.standing self.new.disk) self.old.sector slot) }
+        ensures cause { IfErr result (SlotCause (D.standing self.old.disk) (D.standing self.new.disk) self.old.sector slot) }
     {
         let Some(place) = place_of(self.disk.length(), self.sector, slot) else {
             return Err(ShelfFault::Short { slot });

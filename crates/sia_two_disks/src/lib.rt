@@ -25,7 +25,8 @@
 //!
 //! # Stands on
 //!
-//! `sia_journal` and `sia_shelf` for the disks, `sia_merkle` for the root.
+//! `sia_journal` and `sia_shelf` for the two disks, `sia_edge` for their model, `sia_merkle` for the root of a sector, `sia_blake`
+//! for its hash, and `sia_encoding` for the record that names it.
 #![tactic(auto)]
 
 mod entry;

@@ -1,4 +1,4 @@
-use Rattle.std.proofs.Common.{◌≡◌, ◌<◌, ◌^◌, ◌++◌, length, ap, sym, ◌∙◌, arith}
+use Rattle.std.proofs.Common.{◌++◌, length, ap, sym, ◌∙◌, arith}
 use Rattle.sia_merkle.specs.Segments.{cover, cover_within, segment_roots}
 use Rattle.sia_cover.proofs.FullJoins.{no_segments}
 use Rattle.sia_cover.proofs.SameCovers.{cover_any}

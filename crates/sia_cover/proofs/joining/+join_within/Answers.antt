@@ -1,4 +1,4 @@
-use Rattle.std.proofs.Common.{◌≡◌, ◌+◌, ◌-◌, ◌^◌, ◌≤◌, ◌<◌, suc, length, map, take, drop, arith, ap, sym, ◌∙◌, rules}
+use Rattle.std.proofs.Common.{◌≡◌, ◌+◌, ◌-◌, ◌^◌, ◌<◌, suc, length, map, take, drop, arith, ap, sym, ◌∙◌, rules}
 use Rattle.sia_merkle.specs.Computations.{hash_of}
 use Rattle.sia_merkle.specs.Computations.Tree.{Given}
 use Rattle.sia_merkle.specs.Roots.{first_hash, node_digest}

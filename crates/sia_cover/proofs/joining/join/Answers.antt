@@ -1,4 +1,4 @@
-use Rattle.std.proofs.Common.{length, map, drop, arith, ap, sym, ◌∙◌}
+use Rattle.std.proofs.Common.{length, map, arith, ap, sym, ◌∙◌}
 use Rattle.sia_merkle.specs.Computations.{hash_of}
 use Rattle.sia_merkle.specs.Computations.Tree.{Given}
 use Rattle.sia_merkle.specs.Segments.{others}

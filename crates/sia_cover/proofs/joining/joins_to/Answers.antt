@@ -1,5 +1,5 @@
 use Rattle.std.proofs.Common.{◌∙◌, sym}
-use Rattle.sia_cover.proofs.Judged.{misplaced, uncovered, judged}
+use Rattle.sia_cover.proofs.Judged.{judged}
 use Rattle.sia_cover.proofs.joining.joins_to.Goals as goal
 
 pub returns : goal.returns

@@ -1,4 +1,4 @@
-use Rattle.std.proofs.Common.{◌+◌, ap, sym, ◌∙◌, arith}
+use Rattle.std.proofs.Common.{sym, ◌∙◌}
 use Rattle.sia_cover.proofs.Counts.{clear_told}
 use Rattle.sia_cover.proofs.place_set.is_clear.Goals as goal
 

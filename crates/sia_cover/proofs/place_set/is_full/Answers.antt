@@ -1,5 +1,4 @@
-use Rattle.std.proofs.Common.{◌+◌, ap, sym, ◌∙◌, arith}
-use Rattle.sia_cover.specs.Joined.{count_below}
+use Rattle.std.proofs.Common.{sym, ◌∙◌, arith}
 use Rattle.sia_cover.proofs.Counts.{below_parts, full_told}
 use Rattle.sia_cover.proofs.place_set.is_full.Goals as goal
 

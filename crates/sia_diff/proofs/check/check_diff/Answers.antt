@@ -1,4 +1,4 @@
-use Rattle.std.proofs.Common.{◌≡◌, ◌∙◌, ◌≤◌, true, false, ap, sym, refl, length, arith}
+use Rattle.std.proofs.Common.{◌≡◌, ◌∙◌, true, false, ap, sym, refl, length}
 use Rattle.std.proofs.lemmas.List.{length-map}
 use Rattle.sia_merkle.specs.Computations.Tree.{Given}
 use Rattle.sia_cover.specs.Joined.{count_below}

@@ -1,8 +1,7 @@
 use Rattle.std.proofs.Common.{◌≡◌, ◌∙◌, ◌<◌, ℕ, Bool, ap, length, get_or, arith}
 use Rattle.sia_merkle.specs.Segments.{cover, others, segment_roots}
 use Rattle.sia_diff.specs.Diffs.{touched_or_new}
-use Rattle.sia_diff.specs.DiffSteps.{is_fit, touched_places}
-use Rattle.sia_diff.proofs.Fit.{fit_count}
+use Rattle.sia_diff.specs.DiffSteps.{touched_places}
 use Rattle.sia_diff.proofs.Listed.{are_places, chosen_is, touched_below}
 use Rattle.sia_diff.proofs.prove.prove_diff.Goals as goal
 

@@ -10,5 +10,5 @@ loop-t-init c = c.in_ok-piece.ensures.items
 pub loop-t-preserved : goal.loop-t-preserved
 loop-t-preserved c =
     pushed_on c.in_ok-push.ensures.items c.loop-t.invariant
-      (c.value.ensures ∙ ap (value c.group_of.result.now) c.new-products.ensures ∙ ap (λ part. value part c.args.place) c.group_of.ensures)
-      (values_more c.loop-t.t c.args.k c.args.place c.args.bytes.now)
+    (c.value.ensures ∙ ap (value c.group_of.result.now) c.new-products.ensures ∙ ap (λ part. value part c.args.place) c.group_of.ensures)
+    (values_more c.loop-t.t c.args.k c.args.place c.args.bytes.now)

@@ -8,5 +8,5 @@ use Rattle.sia_pieces.proofs.cut.cut_pieces.Goals as goal
 pub loop-place-preserved : goal.loop-place-preserved
 loop-place-preserved c =
     pushed_on c.in_ok-push.ensures.ok c.loop-place.invariant c.in_ok-cut_piece.ensures
-      (ap (map (λ place. values_at place (groups c.args.k c.args.bytes.now))) (numbers_more c.loop-place.place)
-        ∙ map-append (λ place. values_at place (groups c.args.k c.args.bytes.now)) (range_with_len 0 c.loop-place.place) (c.loop-place.place ∷ []))
+    (ap (map (λ place. values_at place (groups c.args.k c.args.bytes.now))) (numbers_more c.loop-place.place)
+    ∙ map-append (λ place. values_at place (groups c.args.k c.args.bytes.now)) (range_with_len 0 c.loop-place.place) (c.loop-place.place ∷ []))

@@ -1,4 +1,4 @@
-use Rattle.std.proofs.Common.{◌≡◌, ◌+◌, ◌^◌, ◌<◌, ◌≤◌, ◌*◌, length, min, arith, refl, ◌∙◌}
+use Rattle.std.proofs.Common.{◌≡◌, ◌+◌, ◌^◌, ◌≤◌, ◌*◌, length, min, arith, refl, ◌∙◌}
 use Rattle.sia_merkle.specs.Roots.{leaf_count}
 use Rattle.sia_merkle.proofs.Trees.{low_level}
 use Rattle.sia_range.proofs.Judging.{part_of_leaves}

@@ -1,4 +1,4 @@
-use Rattle.std.proofs.Common.{◌≡◌, ℕ, List, true, false, map, ap, sym, ◌∙◌, refl, subst}
+use Rattle.std.proofs.Common.{ℕ, List, map, ap, sym, ◌∙◌, refl, subst}
 use Rattle.sia_merkle.specs.Computations.{hash_of}
 use Rattle.sia_merkle.specs.Computations.Tree.{Given}
 use Rattle.sia_merkle.specs.Roots.{leaf_digest, leaves_of}

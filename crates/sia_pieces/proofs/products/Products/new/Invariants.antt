@@ -5,5 +5,5 @@ use Rattle.sia_pieces.proofs.products.Products.new.Given as goal
 abbrev pub invariant-loop-a : goal.invariant-loop-a
 invariant-loop-a l = record {
   long : length l.table ≡ 256;
-  below : (a : ℕ) → a < l.a → get_or l.table a 0 ≡ product l.place a
+  below : (a : ℕ) → a < l.a → get_or l.table a 0 ≡ product l.place a;
 }

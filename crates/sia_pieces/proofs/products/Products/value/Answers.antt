@@ -1,4 +1,4 @@
-use Rattle.std.proofs.Common.{◌≡◌, length, drop, refl, sym, ◌∙◌, ap, arith, bit_xor, get_or, ◌-◌}
+use Rattle.std.proofs.Common.{length, refl, ◌∙◌, ap, arith, bit_xor, get_or, ◌-◌}
 use Rattle.std.proofs.lemmas.List.{drop_all}
 use Rattle.sia_pieces.specs.Pieces.{sum_of_terms}
 use Rattle.sia_pieces.proofs.Values.{value_step}

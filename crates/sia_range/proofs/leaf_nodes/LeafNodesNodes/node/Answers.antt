@@ -1,4 +1,4 @@
-use Rattle.std.proofs.Common.{◌≡◌, ◌+◌, ◌*◌, ◌^◌, ◌≤◌, ◌<◌, length, map, take, drop, arith, ap, ◌∙◌}
+use Rattle.std.proofs.Common.{◌≡◌, ◌+◌, ◌*◌, ◌^◌, ◌≤◌, length, map, take, drop, arith, ap, ◌∙◌}
 use Rattle.sia_merkle.specs.Roots.{leaf_count, leaf_digest, leaves_of, tree_root}
 use Rattle.sia_merkle.proofs.Cuts.{length-leaf_hashes}
 use Rattle.sia_merkle.proofs.Trees.{low_level}
