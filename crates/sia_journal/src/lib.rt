@@ -2,7 +2,7 @@
 //! list before or as that list with the new record.
 //!
 //! The form of the file is this product's own (specs/Listed.antt): what it lists is a definition on its bytes alone. What a
-//! crash may leave is the model of `sia_edge`, which is that of POSIX's `pwrite`, `ftruncate` and `fsync`.
+//! crash may leave is the model of `sia_edge`, which is that of POSIX's pwrite, ftruncate and fsync.
 //!
 //! ```
 //! let mut journal = Journal::open(alloc, disk, b"sia journal v1\0\0", limit)?;
@@ -25,7 +25,7 @@
 //! - [`Journal::read_next`] and [`Journal::read_next_onto`] give the payloads in order, from [`FIRST_PLACE`] on, and answer false
 //!   exactly at the end. At the end, and after an error, the place and what is read into are as before. The second takes no
 //!   memory where there is room.
-//! - `Disk` comes only where a call of the disk failed, and `Memory` never of an append.
+//! - [`JournalFault::Disk`] comes only where a call of the disk failed, and `Memory` never of an append.
 //!
 //! # Stands on
 //!
