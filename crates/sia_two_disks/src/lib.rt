@@ -25,8 +25,8 @@
 //!
 //! # Stands on
 //!
-//! `sia_journal` and `sia_shelf` for the two disks, `sia_edge` for their model, `sia_merkle` for the root of a sector, `sia_blake`
-//! for its hash, and `sia_encoding` for the record that names it.
+//! `sia_journal` and `sia_shelf` for the disks, `sia_edge` for their model of a crash, `sia_merkle` and `sia_blake` for the root,
+//! `sia_encoding` for the spelling of a record.
 #![tactic(auto)]
 
 mod entry;
