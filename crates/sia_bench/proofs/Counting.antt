@@ -5,11 +5,11 @@ use Rattle.sia_journal.specs.Listed.{frame, frames, at_rest, place_after}
 use Rattle.sia_journal.specs.Journal.{NextIs}
 
 -- one record more was read
-pub read_more : (read left records : List (List ℕ)) (count place : ℕ) (out : List ℕ) (answer : Bool) → records ≡ read ++ left → length read ≡ count
-    → answer ≡ true → NextIs read left place out answer
+pub read_more : (read left records : List (List ℕ)) (count place : ℕ) (held out : List ℕ) (answer : Bool) → records ≡ read ++ left → length read ≡ count
+    → answer ≡ true → NextIs read left held place out answer
     → (front : List (List ℕ)) × (back : List (List ℕ)) × (records ≡ front ++ back) × (length front ≡ count + 1) × (place ≡ place_after front)
-read_more read [] records count place out answer is size was next = absurd (false≢true (sym next ∙ was))
-read_more read (payload ∷ others) records count place out answer is size was next =
+read_more read [] records count place held out answer is size was next = absurd (false≢true (sym next ∙ was))
+read_more read (payload ∷ others) records count place held out answer is size was next =
     (read ++ payload ∷ [], others, is ∙ sym (append_assoc read (payload ∷ []) others), omega (arith, size, length-append read (payload ∷ [])), next.2)
 
 frames_long : (records : List (List ℕ)) → length records ≤ length (frames records)

@@ -6,7 +6,7 @@ use crate::turns::Crew;
 /// What the program prints where the words are wrong: N is less than 1, or more than 2^20 for a shelf, or there are fewer
 /// threads than 1 or more than 64.
 pub(crate) const USAGE: &str =
-    "usage: sia_bench digest FILE N | turn THREADS N | journal FILE N | open FILE | shelf FILE N";
+    "usage: sia_bench digest FILE N | turn THREADS N | range FILE N | journal FILE N | open FILE | shelf FILE N";
 
 /// What to run.
 #[derive(Clone, Copy)]
@@ -15,6 +15,8 @@ pub(crate) enum Kernel<'a> {
     Digest { file: &'a str, times: u64 },
     /// Let each of the threads take as many turns, and then as many locks.
     Turn { crew: Crew, times: u64 },
+    /// Prove and check a range of the file's leaves as many times.
+    Range { file: &'a str, times: u64 },
     /// Append as many records to the journal of the file.
     Journal { file: &'a str, times: u64 },
     /// Open the journal of the file and read its records.
@@ -45,6 +47,7 @@ fn repeated<'a>(name: &str, on: &'a str, times: u64) -> Option<Kernel<'a>> {
             let crew = Crew::of(on.parse().ok()?)?;
             Some(Kernel::Turn { crew, times })
         }
+        "range" => Some(Kernel::Range { file: on, times }),
         "journal" => Some(Kernel::Journal { file: on, times }),
         "shelf" => {
             let slots = Slots::of(times)?;
@@ -61,12 +64,13 @@ mod tests {
 
     #[test]
     fn words_name_a_kernel(rt: HostRuntime) -> Result<(), Fail> {
-        let cases: [(&[&str], bool); 10] = [
+        let cases: [(&[&str], bool); 11] = [
             (&["digest", "abc", "3"], true),
             (&["digest", "abc", "0"], false),
             (&["digest", "abc", "three"], false),
             (&["digests", "abc", "3"], false),
             (&["turn", "65", "3"], false),
+            (&["range", "abc", "3"], true),
             (&["journal", "abc", "3"], true),
             (&["open", "abc"], true),
             (&["open", "abc", "3"], false),

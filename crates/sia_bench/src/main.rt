@@ -1,16 +1,23 @@
 //! One kernel of the product, run many times: what the scripts in bench/ measure.
 //!
-//! `sia_bench digest FILE N` reads FILE whole, hashes it N times and prints the last digest in hexadecimal.
+//! `sia_bench digest FILE N` reads FILE whole, hashes it N times and prints the last digest in hexadecimal, and how many it
+//! made.
 //! `sia_bench turn THREADS N` lets so many threads take N turns each over one counter, and then N locks of std's
-//! `Mutex`, and prints how many nanoseconds each of the two took.
-//! `sia_bench journal FILE N` appends N records to the journal of FILE, and prints how many nanoseconds that took.
+//! `Mutex`, and prints how many nanoseconds each of the two took, and how many turns the counter counted.
+//! `sia_bench journal FILE N` appends N records to the journal of FILE, and prints how many nanoseconds that took, and by
+//! how many records the journal has grown.
 //! `sia_bench open FILE` opens the journal of FILE and reads all its records, and prints how many there are and how many
 //! nanoseconds each of the two took.
-//! `sia_bench shelf FILE N` puts N sectors of 4 MiB into FILE, each with a sync, and prints how many nanoseconds that took.
+//! `sia_bench shelf FILE N` puts N sectors of 4 MiB into FILE, each with a sync, and prints how many nanoseconds that took,
+//! and how many slots aren't free any more.
+//! `sia_bench range FILE N` makes the root of FILE's bytes N times, and N times proves and checks the range of all their
+//! leaves, and that of all but the first and the last, and prints how many nanoseconds each of the three took, and how
+//! many ranges were accepted.
 //! Wrong words give status 1, and a file that can't be read status 2.
 #![tactic(auto)]
 
 mod kernel;
+mod ranges;
 mod records;
 mod run;
 mod sectors;

@@ -1,7 +1,6 @@
 //! A journal over a file: records are appended one after another, or all are read.
 
-ghost use Rattle.std.specs.Prelude.{◌≡◌, ◌++◌, ℕ, List, IsTrue, IfOk, OnOk, length, replicate};
-ghost use Rattle.sia_journal.specs.Listed.{HEADER};
+ghost use Rattle.std.specs.Prelude.{◌≡◌, ◌+◌, ◌*◌, ◌++◌, ℕ, List, IsTrue, IfOk, OnOk, length, replicate};
 ghost use Rattle.sia_journal.specs.Journal.{Holds, IsReady};
 
 use sia_edge::{Disk, FileDisk};
@@ -22,6 +21,9 @@ const LIMIT: u64 = 1 << 36;
 /// How many bytes a payload has.
 const PAYLOAD: usize = 200;
 
+/// How many bytes a journal grows by with each record: the payload, its length of 8 bytes and a gate.
+const RECORD: u64 = 209;
+
 /// What a journal's fault is to the program.
 fn error_of(fault: JournalFault) -> io::Error {
     io::Error::from(match fault {
@@ -34,7 +36,7 @@ fn error_of(fault: JournalFault) -> io::Error {
 
 /// Opens the journal of a disk.
 fn open<D: Disk + Drop>(alloc: Global, disk: D) -> io::Result<Journal<D>>
-    ensures ready { IfOk result (λ journal. IsReady D.seen journal) }
+    ensures ready { IfOk result (λ journal. IsReady D.standing journal) }
 {
     match Journal::open(alloc, disk, &HOST_HEADER, LIMIT) {
         Ok(journal) => Ok(journal),
@@ -42,28 +44,32 @@ fn open<D: Disk + Drop>(alloc: Global, disk: D) -> io::Result<Journal<D>>
     }
 }
 
-/// Appends the record as many times.
+/// Appends the record as many times, and answers how many records the journal has grown by.
 fn append_often<D: Disk>(
     journal: &mut Journal<D>,
     framed: &RecordBuf,
     times: u64,
-) -> Result<(), JournalFault>
-    requires { IsReady D.seen journal.old }
-    ensures kept { IsTrue D.tells → OnOk result ((header : List ℕ) (records : List (List ℕ)) → length header ≡ HEADER
-        → Holds D.seen D.moment D.since header records journal.old.disk
-        → Holds D.seen D.moment D.since header (records ++ replicate times framed.now) journal.new.disk) }
+) -> Result<u64, JournalFault>
+    requires ready { IsReady D.standing journal.old }
+    requires size { length framed.now ≡ PAYLOAD }
+    ensures count { IfOk result (λ count. count ≡ times) }
+    ensures grown { OnOk result (length (D.standing journal.new.disk).seen ≡ length (D.standing journal.old.disk).seen + times * RECORD) }
+    ensures kept { IsTrue D.tells → OnOk result ((header : List ℕ) (records : List (List ℕ))
+        → Holds header records (D.standing journal.old.disk)
+        → Holds header (records ++ replicate times framed.now) (D.standing journal.new.disk)) }
 {
+    let before = journal.length();
     for _ in 0..times {
         journal.append(framed)?;
     }
-    Ok(())
+    Ok((journal.length() - before) / RECORD)
 }
 
 /// Reads all records, and answers how many there are.
 fn count_records<D: Disk>(alloc: Global, journal: &mut Journal<D>) -> Result<u64, JournalFault>
-    requires { IsReady D.seen journal.old }
-    ensures count { IsTrue D.tells → (header : List ℕ) (records : List (List ℕ)) → length header ≡ HEADER
-        → Holds D.seen D.moment D.since header records journal.old.disk
+    requires { IsReady D.standing journal.old }
+    ensures count { IsTrue D.tells → (header : List ℕ) (records : List (List ℕ))
+        → Holds header records (D.standing journal.old.disk)
         → IfOk result (λ count. count ≡ length records) }
 {
     let mut place = 16;
@@ -77,18 +83,28 @@ fn count_records<D: Disk>(alloc: Global, journal: &mut Journal<D>) -> Result<u64
     Ok(most)
 }
 
-/// How many nanoseconds so many appends take to the journal of a file, which is made where it is missing.
+/// How many appends were made, and how many nanoseconds they took.
+#[derive(Clone, Copy)]
+pub(crate) struct Appending {
+    pub(crate) appends: u64,
+    pub(crate) nanos: u128,
+}
+
+/// Appends as many records to the journal of a file, which is made where it is missing.
 pub(crate) fn append_nanos<R: Files<File = File> + Clock>(
     rt: &R,
     alloc: Global,
     file: &str,
     times: u64,
-) -> io::Result<u128> {
+) -> io::Result<Appending>
+    ensures { IfOk result (λ appending. appending.appends ≡ times) }
+{
     let framed = RecordBuf::new(alloc, &[7; PAYLOAD])?;
     let mut journal = open(alloc, FileDisk::open(rt, file.as_bytes()))?;
     let start = Instant::now(rt)?;
-    append_often(&mut journal, &framed, times).map_err(error_of)?;
-    Ok(start.elapsed(rt)?.as_nanos())
+    let appends = append_often(&mut journal, &framed, times).map_err(error_of)?;
+    let nanos = start.elapsed(rt)?.as_nanos();
+    Ok(Appending { appends, nanos })
 }
 
 /// How long the opening of a journal takes, and the reading of its records.

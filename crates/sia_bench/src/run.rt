@@ -1,9 +1,10 @@
 //! The kernels.
 
-ghost use Rattle.std.specs.Prelude.{◌≡◌};
+ghost use Rattle.std.specs.Prelude.{◌≡◌, ◌<◌};
 ghost use Rattle.sia_blake.specs.Blake2b.{blake2b_256};
 
 use crate::kernel::Kernel;
+use crate::ranges::range_nanos;
 use crate::records::{append_nanos, open_nanos};
 use crate::sectors::put_nanos;
 use crate::turns::{lock_nanos, turn_nanos};
@@ -14,17 +15,26 @@ use std::sync::Wait;
 use std::thread::Threads;
 use std::{fs, io};
 
-/// The last of as many digests of the bytes, of which there is at least one.
-fn digest_again(bytes: &[u8], times: u64) -> Hash
-    ensures { result ≡ blake2b_256 bytes.now }
+/// The last of the digests, and how many were made.
+#[derive(Clone, Copy)]
+struct Digests {
+    last: Hash,
+    count: u64,
+}
+
+/// Digests the bytes as many times.
+fn digest_again(bytes: &[u8], times: u64) -> Digests
+    ensures last { 0 < times → result.last ≡ blake2b_256 bytes.now }
+    ensures count { result.count ≡ times }
 {
-    let first = digest(bytes);
-    let mut last = first;
-    'again: for _ in 1..times {
+    let mut last = [0; 32];
+    let mut count = 0;
+    'again: for _ in 0..times {
         let next = digest(bytes);
         last = next;
+        count += 1;
     }
-    last
+    Digests { last, count }
 }
 
 pub(crate) fn run<R: Files<File = File> + Print + AllocGlobal + Clock + Threads + Wait + Sync>(
@@ -34,21 +44,32 @@ pub(crate) fn run<R: Files<File = File> + Print + AllocGlobal + Clock + Threads 
     match kernel {
         Kernel::Digest { file, times } => {
             let bytes = fs::read(rt, file)?;
-            let hash = digest_again(bytes.as_slice(), times);
-            for byte in hash {
+            let digests = digest_again(bytes.as_slice(), times);
+            for byte in digests.last {
                 print!(rt; "{byte:02x}")?;
             }
-            println!(rt; "")
+            println!(rt; "")?;
+            println!(rt; "digests {}", digests.count)
         }
         Kernel::Turn { crew, times } => {
-            let turns = turn_nanos(rt, rt.alloc(), crew, times)?;
+            let turning = turn_nanos(rt, rt.alloc(), crew, times)?;
             let locks = lock_nanos(rt, rt.alloc(), crew, times)?;
-            println!(rt; "turn {turns}")?;
+            println!(rt; "turn {}", turning.nanos)?;
+            println!(rt; "turns {}", turning.turns)?;
             println!(rt; "mutex {locks}")
         }
+        Kernel::Range { file, times } => {
+            let bytes = fs::read(rt, file)?;
+            let ranging = range_nanos(rt, rt.alloc(), bytes.as_slice(), times)?;
+            println!(rt; "root {}", ranging.root)?;
+            println!(rt; "all {}", ranging.all)?;
+            println!(rt; "inner {}", ranging.inner)?;
+            println!(rt; "accepted {}", ranging.accepted)
+        }
         Kernel::Journal { file, times } => {
-            let nanos = append_nanos(rt, rt.alloc(), file, times)?;
-            println!(rt; "append {nanos}")
+            let appending = append_nanos(rt, rt.alloc(), file, times)?;
+            println!(rt; "append {}", appending.nanos)?;
+            println!(rt; "appends {}", appending.appends)
         }
         Kernel::Open { file } => {
             let opening = open_nanos(rt, rt.alloc(), file)?;
@@ -57,8 +78,9 @@ pub(crate) fn run<R: Files<File = File> + Print + AllocGlobal + Clock + Threads 
             println!(rt; "read {}", opening.read)
         }
         Kernel::Shelf { file, slots } => {
-            let nanos = put_nanos(rt, rt.alloc(), file, slots)?;
-            println!(rt; "put {nanos}")
+            let putting = put_nanos(rt, rt.alloc(), file, slots)?;
+            println!(rt; "put {}", putting.nanos)?;
+            println!(rt; "puts {}", putting.puts)
         }
     }
 }

@@ -1,7 +1,8 @@
 //! A shelf over a file: sectors are put one after another, each with a sync.
 
 ghost use Rattle.std.specs.Prelude.{◌≡◌, ◌^◌, ◌<◌, ◌≤◌, ℕ, IsTrue, IfOk, OnOk, length, vec_len, replicate};
-ghost use Rattle.sia_shelf.specs.Slots.{InEach};
+ghost use Rattle.sia_edge.specs.Disk.{EachImage};
+ghost use Rattle.sia_shelf.specs.Slots.{Has};
 ghost use Rattle.sia_shelf.specs.Shelf.{mark_of};
 
 use sia_edge::{Did, Disk, FileDisk};
@@ -55,19 +56,20 @@ fn shelf_of<D: Disk + Drop>(alloc: Global, mut disk: D, slots: u64) -> Result<Sh
     }
 }
 
-/// Puts the same bytes into each slot, and syncs after each.
-fn put_each<D: Disk>(shelf: &mut Shelf<D>, bytes: &[u8], slots: u64) -> Result<(), ShelfFault>
+/// Puts the same bytes into each slot, syncs after each, and answers how many slots aren't free any more.
+fn put_each<D: Disk>(shelf: &mut Shelf<D>, bytes: &[u8], slots: u64) -> Result<u64, ShelfFault>
     requires free { shelf.old.marks ≡ replicate slots Mark.Free }
     requires size { length bytes.now ≡ shelf.old.sector }
+    ensures count { IfOk result (λ count. count ≡ slots) }
     ensures live { OnOk result ((slot : ℕ) → slot < slots → mark_of shelf.new.marks slot ≡ Mark.Live) }
     ensures kept { IsTrue D.tells → OnOk result ((slot : ℕ) → slot < slots
-        → InEach shelf.old.sector slot bytes.now (D.since shelf.new.disk (D.moment shelf.new.disk))) }
+        → EachImage (Has shelf.old.sector slot bytes.now) (D.standing shelf.new.disk)) }
 {
     for slot in 0..slots {
         shelf.put(slot, bytes)?;
         shelf.sync()?;
     }
-    Ok(())
+    Ok(slots.saturating_sub(shelf.free_count()))
 }
 
 /// So many bytes.
@@ -79,19 +81,29 @@ fn sector_of(alloc: Global, size: usize) -> Result<Vec<u8>, AllocError>
     Ok(bytes)
 }
 
-/// How many nanoseconds it takes to put and sync each slot of a shelf over a file, which is made where it is missing.
+/// How many sectors were put, and how many nanoseconds that took.
+#[derive(Clone, Copy)]
+pub(crate) struct Putting {
+    pub(crate) puts: u64,
+    pub(crate) nanos: u128,
+}
+
+/// Puts and syncs each slot of a shelf over a file, which is made where it is missing.
 pub(crate) fn put_nanos<R: Files<File = File> + Clock>(
     rt: &R,
     alloc: Global,
     file: &str,
     slots: Slots,
-) -> io::Result<u128> {
+) -> io::Result<Putting>
+    ensures { IfOk result (λ putting. putting.puts ≡ slots.count) }
+{
     let bytes = sector_of(alloc, SECTOR as usize)?;
     let disk = FileDisk::open(rt, file.as_bytes());
     let mut shelf = shelf_of(alloc, disk, slots.count).map_err(error_of)?;
     let start = Instant::now(rt)?;
-    put_each(&mut shelf, bytes.as_slice(), slots.count).map_err(error_of)?;
-    Ok(start.elapsed(rt)?.as_nanos())
+    let puts = put_each(&mut shelf, bytes.as_slice(), slots.count).map_err(error_of)?;
+    let nanos = start.elapsed(rt)?.as_nanos();
+    Ok(Putting { puts, nanos })
 }
 
 #[cfg(test)]

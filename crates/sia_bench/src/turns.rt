@@ -81,47 +81,58 @@ fn count_often<R: Wait>(rt: &R, turn: &Turn<Count>, pass: &mut Pass<Count>, turn
     }
 }
 
-// So many passes, which the first one splits off.
-fn split_all(
-    alloc: Global,
+// Each of the passes takes as many turns, on a thread of its own.
+fn count_all<R: Threads + Wait + Sync>(
+    rt: &R,
     turn: &Turn<Count>,
-    first: &mut Pass<Count>,
-    threads: usize,
-) -> Result<Vec<Pass<Count>>, AllocError>
-    requires first { (first.old.turn ≡ turn.now.turn) × (first.old.inside ≡ false) }
-    requires room { first.old.rest ≡ threads }
-    ensures { IfOk result (λ passes. (vec_len passes ≡ threads) × All (IsWorker turn.now.turn) passes.items) }
+    passes: &mut Vec<Pass<Count>>,
+    turns: u64,
+)
+    requires some { (0 < vec_len passes.old) × (vec_len passes.old ≤ 64) }
+    requires workers { All (IsWorker turn.now.turn) passes.old.items }
+    ensures len { vec_len passes.new ≡ vec_len passes.old }
+    ensures workers { All (IsWorker turn.now.turn) passes.new.items }
 {
-    let mut passes = Vec::new(alloc);
-    for _ in 0..threads {
-        passes.push(turn.split(first))?;
-    }
-    Ok(passes)
+    let workers = passes.len();
+    for_each_mut(
+        rt,
+        passes.as_mut_slice(),
+        workers,
+        &|_, pass| {
+            count_often(rt, turn, pass, turns);
+        },
+    );
 }
 
-/// How many nanoseconds so many threads take for so many turns each.
+/// How many turns were taken, as the value that was passed round counted them, and how many nanoseconds they took.
+#[derive(Clone, Copy)]
+pub(crate) struct Turning {
+    pub(crate) turns: u64,
+    pub(crate) nanos: u128,
+}
+
+/// Lets so many threads take as many turns each.
 pub(crate) fn turn_nanos<R: Threads + Wait + Sync + Clock>(
     rt: &R,
     alloc: Global,
     crew: Crew,
     turns: u64,
-) -> io::Result<u128> {
+) -> io::Result<Turning> {
     let threads = crew.threads;
     let seats = threads as u64 + 1;
     let Ok((turn, mut first)) = Turn::new::<Nothing>(alloc, Count { times: 0 }, seats) else {
         return Err(AllocError.into());
     };
-    let mut passes = split_all(alloc, &turn, &mut first, threads)?;
+    let mut passes = turn.split_all(alloc, &mut first, threads)?;
     let start = Instant::now(rt)?;
-    for_each_mut(
-        rt,
-        passes.as_mut_slice(),
-        threads,
-        &|_, pass| {
-            count_often(rt, &turn, pass, turns);
-        },
-    );
-    Ok(start.elapsed(rt)?.as_nanos())
+    count_all(rt, &turn, &mut passes, turns);
+    let nanos = start.elapsed(rt)?.as_nanos();
+    turn.gather(&mut first, passes);
+    let count = turn.close(first);
+    Ok(Turning {
+        turns: count.times,
+        nanos,
+    })
 }
 
 fn lock_often<R: Wait>(rt: &R, count: &Mutex<u64>, locks: u64) {

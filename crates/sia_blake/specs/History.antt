@@ -2,6 +2,7 @@
 use Rattle.std.specs.Prelude.{ℕ, List, [], ◌∷◌, ◌++◌}
 use Rattle.sia_blake.specs.declared.absorbed.Absorbed.{Absorbed, Nothing, Then'}
 
+-- the bytes of the snapshots, the first one first
 abbrev pub absorbed_bytes : Absorbed → List ℕ
 absorbed_bytes Nothing = []
 absorbed_bytes (Then' marker before byte) = absorbed_bytes before ++ byte.value ∷ []

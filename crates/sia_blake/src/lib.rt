@@ -1,8 +1,26 @@
-//! BLAKE2b with a digest of 32 bytes and no key (RFC 7693), of a whole message by `digest`, and of a
-//! message that comes in pieces by a `Hasher`. Both are proved to be the definition of specs/Blake2b.antt, whose
-//! vectors stand in proofs/Vectors.antt.
+//! BLAKE2b with a digest of 32 bytes and no key: of a whole message, of one that comes in pieces, and of four side by side.
 //!
-//! It stands on std alone. No call takes memory, and none can be refused.
+//! The standard is RFC 7693. specs/Blake2b.antt has it as functions on lists of numbers, section by section; its vectors are
+//! proved by computation in proofs/Vectors.antt.
+//!
+//! ```
+//! let mut hasher = Hasher::new();
+//! hasher.update(&piece);
+//! let hash = hasher.finish();
+//! ```
+//!
+//! # Promises
+//!
+//! - [`digest`] is the BLAKE2b-256 digest of its bytes, however many they are.
+//! - A [`Hasher`] is seen as the bytes that it was given: [`Hasher::update`] puts more behind them, fewer than 2^64 in all, and
+//!   [`Hasher::finish`] gives the digest of all. So how a message is cut into pieces changes nothing.
+//! - [`digest_four`] gives the digests of four messages of 65 bytes each, a first byte that all have and 64 bytes of their own:
+//!   what a leaf or a node of a Merkle tree hashes.
+//! - Neither [`digest`] nor [`digest_four`] nor a [`Hasher`] takes memory, and none of their calls can be refused.
+//!
+//! # Stands on
+//!
+//! std alone.
 #![tactic(auto)]
 
 ghost use Rattle.std.specs.Prelude.{◌≡◌};
@@ -14,8 +32,6 @@ mod edges;
 mod four;
 mod hasher;
 mod state;
-#[cfg(test)]
-mod tests;
 
 use compression::{BLOCK_LEN, INITIAL_HASH, compress};
 use edges::{compress_last, digest_bytes};

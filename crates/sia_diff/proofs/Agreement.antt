@@ -9,7 +9,7 @@ use Rattle.std.proofs.lemmas.Grind.{get_or-set_at}
 use Rattle.std.proofs.lemmas.List.{get_or_append_left, get_or-append_right, get_or_past, get_or-set_other, get_or-take}
 use Rattle.sia_diff.specs.declared.steps.DiffStep.{DiffStep}
 use Rattle.sia_diff.specs.declared.steps.DiffStep.TheVariants as step
-use Rattle.sia_diff.specs.Steps.{turns, after, after_step, count_after_step, step_touches, step_fits, touch_count}
+use Rattle.sia_diff.specs.DiffSteps.{counted_steps, after, after_step, count_after_step, step_touches, step_fits, touch_count}
 use Rattle.sia_diff.proofs.Counts.{left_of_and, right_of_and, touches_cons}
 use Rattle.sia_diff.proofs.Moves.{first_fits, rest_fits, length_step, keeps_step, untouched_parts}
 
@@ -83,7 +83,7 @@ touched_later true rest total is more = omega arith
 touched_later false rest total is more = omega arith
 
 pub agree_after : (chosen : ℕ → Bool) (steps : List DiffStep) (count : ℕ) (first second : List (List ℕ)) → length first ≡ count → length second ≡ count
-    → list_all (λ turn. step_fits turn.count turn.step) (turns count steps) ≡ true → ((place : ℕ) → 0 < touch_count count steps place → chosen place ≡ true)
+    → list_all (λ counted. step_fits counted.count counted.step) (counted_steps count steps) ≡ true → ((place : ℕ) → 0 < touch_count count steps place → chosen place ≡ true)
     → AgreeOn chosen first second → AgreeOn chosen (after first steps) (after second steps)
 unfolding after
 agree_after chosen [] count first second is is' fits touches agree = agree
@@ -113,7 +113,7 @@ keep_step (step.Swap i j) count place hashes is within e =
     get_or-set_other (set hashes i (get_or hashes j [])) j place (get_or hashes i []) [] (apart place j both.1) ∙ get_or-set_other hashes i place (get_or hashes j []) [] (apart place i both.0)
 keep_step (step.Set i hash) count place hashes is within e = get_or-set_other hashes i place hash [] (apart place i e)
 
-pub keep_after : (steps : List DiffStep) (count place : ℕ) (hashes : List (List ℕ)) → length hashes ≡ count → place < count → list_all (λ turn. step_fits turn.count turn.step) (turns count steps) ≡ true
+pub keep_after : (steps : List DiffStep) (count place : ℕ) (hashes : List (List ℕ)) → length hashes ≡ count → place < count → list_all (λ counted. step_fits counted.count counted.step) (counted_steps count steps) ≡ true
     → touch_count count steps place ≡ 0 → get_or (after hashes steps) place [] ≡ get_or hashes place []
 unfolding after
 keep_after [] count place hashes is within fits none = refl

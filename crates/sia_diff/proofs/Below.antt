@@ -1,35 +1,17 @@
 -- How many touched and new places there are below a place.
-use Rattle.std.proofs.Common.{◌≡◌, ℕ, zero, suc, ◌+◌, ◌-◌, ◌^◌, ◌<◌, ◌≤◌, true, false, List, [], ◌++◌, length, get_or, refl, sym, ◌∙◌, ap, arith, min, zero-add, length-append}
-use Rattle.std.specs.Prelude.{Bool, ◌&&◌, cond, count_by, nat_le, nat_lt, nat_eq}
-use Rattle.std.specs.List.{range_with_len, list_all, filter}
+use Rattle.std.proofs.Common.{◌≡◌, ℕ, zero, suc, ◌+◌, ◌-◌, ◌<◌, ◌≤◌, true, false, List, [], ◌++◌, length, get_or, refl, sym, ◌∙◌, ap, arith, zero-add, length-append}
+use Rattle.std.specs.Prelude.{Bool, cond, count_by, nat_lt}
+use Rattle.std.specs.List.{range_with_len, filter}
 use Rattle.std.specs.List.Sorted.{IsPartitionedBy, IsPartitionPoint}
 use Rattle.std.proofs.lemmas.Bool.{le-leb, lt-leb, lt-ltb, le-ltb, ltb-true, ltb-false}
-use Rattle.std.proofs.lemmas.Bool.Decides.{nat_tests}
 use Rattle.std.proofs.lemmas.List.{get_or_append_left, get_or-append_right}
 use Rattle.std.proofs.lemmas.List.Elements.{filter-append}
 use Rattle.std.proofs.lemmas.List.Sums.{length-filter, count_by-le-length}
 use Rattle.std.proofs.lemmas.List.FromFn.{length-range_with_len}
-use Rattle.sia_merkle.specs.Segments.{is_covered, others, places_within}
-use Rattle.sia_range.proofs.Joins.{range_parts, count_rows}
+use Rattle.sia_cover.proofs.Counts.{below_parts, count_all}
+use Rattle.sia_cover.proofs.Joins.{count_cons, count_rows, range_parts}
 use Rattle.sia_diff.specs.Chosen.{ArePlaces, is_listed, is_chosen}
-use Rattle.sia_diff.proofs.Counts.{count_cons, filter_row}
-
--- rows of places that are all chosen, or none
-pub count_all : (chosen : ℕ → Bool) (low len : ℕ) → ((place : ℕ) → low ≤ place → place < low + len → chosen place ≡ true) → count_by chosen (range_with_len low len) ≡ len
-count_all chosen low zero each = refl
-count_all chosen low (suc len) each =
-    count_cons chosen low (range_with_len (low + 1) len) ∙ rw (each low (omega arith) (omega arith)) (omega (arith, count_all chosen (low + 1) len (λ place from to. each place (omega arith) (omega arith))))
-
-none_by : (chosen : ℕ → Bool) (low len : ℕ) → (nat_eq (count_by chosen (range_with_len (low + 1) len)) 0) ≡ list_all (others chosen) (range_with_len (low + 1) len)
-    → (here : Bool) → chosen low ≡ here → nat_eq (count_by chosen (range_with_len low (suc len))) 0 ≡ list_all (others chosen) (range_with_len low (suc len))
-none_by chosen low len rest true e = ap (λ n. nat_eq n 0) (count_cons chosen low (range_with_len (low + 1) len)) ∙ rw e (grind (arith, nat_tests))
-none_by chosen low len rest false e =
-    let same : 0 + count_by chosen (range_with_len (low + 1) len) ≡ count_by chosen (range_with_len (low + 1) len) = zero-add _ in
-    ap (λ n. nat_eq n 0) (count_cons chosen low (range_with_len (low + 1) len)) ∙ rw e (ap (λ n. nat_eq n 0) same ∙ rest)
-
-pub none_chosen : (chosen : ℕ → Bool) (low len : ℕ) → nat_eq (count_by chosen (range_with_len low len)) 0 ≡ list_all (others chosen) (range_with_len low len)
-none_chosen chosen low zero = refl
-none_chosen chosen low (suc len) = none_by chosen low len (none_chosen chosen (low + 1) len) (chosen low) refl
+use Rattle.sia_diff.proofs.Counts.{filter_row}
 
 -- below the old count
 pub chosen_old : (old : ℕ) (touched : List ℕ) (place : ℕ) → place < old → is_chosen old touched place ≡ is_listed touched place
@@ -130,11 +112,6 @@ front_low touched place k d within = let at = row_within (is_listed touched) 0 p
 pub rest_high : (touched : List ℕ) (place len k d : ℕ) → k < length (filter (is_listed touched) (range_with_len place len)) → place ≤ get_or (filter (is_listed touched) (range_with_len place len)) k d
 rest_high touched place len k d within = let at = row_within (is_listed touched) place len k d within in omega arith
 
--- a row in terms of two numbers below
-pub below_parts : (chosen : ℕ → Bool) (low len : ℕ) → count_by chosen (range_with_len 0 (low + len)) ≡ count_by chosen (range_with_len 0 low) + count_by chosen (range_with_len low len)
-below_parts chosen low len =
-    count_rows chosen 0 low len ∙ ap (λ n. count_by chosen (range_with_len 0 low) + count_by chosen (range_with_len n len)) (zero-add low)
-
 pub below_next : (chosen : ℕ → Bool) (place : ℕ) → count_by chosen (range_with_len 0 (place + 1)) ≡ count_by chosen (range_with_len 0 place) + cond (chosen place) 1 0
 below_next chosen place =
     let one : count_by chosen (range_with_len place 1) ≡ cond (chosen place) 1 0 + count_by chosen (range_with_len (place + 1) 0) = count_cons chosen place [] in
@@ -147,25 +124,3 @@ told_by before now false is = le-ltb _ _ (omega arith)
 
 pub contains_told : (chosen : ℕ → Bool) (place : ℕ) → nat_lt (count_by chosen (range_with_len 0 place)) (count_by chosen (range_with_len 0 (place + 1))) ≡ chosen place
 contains_told chosen place = told_by (count_by chosen (range_with_len 0 place)) (count_by chosen (range_with_len 0 (place + 1))) (chosen place) (below_next chosen place)
-
-pub within_told : (chosen : ℕ → Bool) (count height low end : ℕ) → low < count → end ≡ min (low + 2 ^ height) count
-    → count_by chosen (range_with_len 0 end) ≡ count_by chosen (range_with_len 0 low) + places_within chosen count height low
-within_told chosen count height low end within is =
-    let len : end ≡ low + min (2 ^ height) (count - low) = omega arith in
-    ap (λ n. count_by chosen (range_with_len 0 n)) len ∙ below_parts chosen low (min (2 ^ height) (count - low))
-
-eq_more : (before more : ℕ) → nat_eq (before + more) before ≡ nat_eq more 0
-eq_more before more = grind (arith, nat_tests)
-
-pub clear_told : (chosen : ℕ → Bool) (count height low end : ℕ) → end ≡ low + 2 ^ height
-    → (nat_le end count && nat_eq (count_by chosen (range_with_len 0 end)) (count_by chosen (range_with_len 0 low))) ≡ is_covered (others chosen) count height low
-clear_told chosen count height low end is =
-    ap (λ n. nat_le n count && nat_eq (count_by chosen (range_with_len 0 n)) (count_by chosen (range_with_len 0 low))) is
-    ∙ ap (λ n. nat_le (low + 2 ^ height) count && nat_eq n (count_by chosen (range_with_len 0 low))) (below_parts chosen low (2 ^ height))
-    ∙ ap (λ b. nat_le (low + 2 ^ height) count && b) (eq_more (count_by chosen (range_with_len 0 low)) (count_by chosen (range_with_len low (2 ^ height))) ∙ none_chosen chosen low (2 ^ height))
-
-pub clear_when : (chosen : ℕ → Bool) (count height low end before now : ℕ) → end ≤ count → end ≡ low + 2 ^ height → before ≡ count_by chosen (range_with_len 0 low) → now ≡ count_by chosen (range_with_len 0 end)
-    → nat_eq now before ≡ is_covered (others chosen) count height low
-clear_when chosen count height low end before now fits is first second =
-    ap (λ n. nat_eq n before) second ∙ ap (nat_eq (count_by chosen (range_with_len 0 end))) first
-    ∙ sym (ap (λ b. b && nat_eq (count_by chosen (range_with_len 0 end)) (count_by chosen (range_with_len 0 low))) (le-leb end count fits)) ∙ clear_told chosen count height low end is

@@ -1,29 +1,23 @@
 -- How often places are touched, step by step.
 use Rattle.std.proofs.Common.{◌≡◌, ℕ, zero, suc, ◌+◌, ◌<◌, ◌≤◌, true, false, List, [], ◌∷◌, ◌++◌, length, drop, get_or, refl, sym, ◌∙◌, ap, arith, min, max, zero-add, length-drop, append-nil}
-use Rattle.std.specs.Prelude.{Bool, ◌&&◌, cond, count_by}
+use Rattle.std.specs.Prelude.{Bool, ◌&&◌, cond}
 use Rattle.std.specs.List.{range_with_len, list_all, filter}
 use Rattle.std.proofs.lemmas.Bool.Decides.{nat_tests}
 use Rattle.std.proofs.lemmas.List.{drop_more}
 use Rattle.std.proofs.lemmas.List.Elements.{filter-append}
-use Rattle.std.proofs.lemmas.List.Sums.{sum_by-append}
 use Rattle.sia_merkle.specs.Segments.{places_between}
-use Rattle.sia_range.proofs.Joins.{range_parts}
+use Rattle.sia_cover.proofs.Joins.{count_cons, range_parts}
 use Rattle.sia_diff.specs.declared.steps.DiffStep.{DiffStep}
-use Rattle.sia_diff.specs.Steps.{Turn, turns, count_after_step, step_touches, step_fits, touch_count}
-
-pub count_cons : {X : Type 0} (test : X → Bool) (x : X) (xs : List X) → count_by test (x ∷ xs) ≡ cond (test x) 1 0 + count_by test xs
-count_cons test x xs =
-    let one : 0 + cond (test x) 1 0 ≡ cond (test x) 1 0 = omega arith in
-    sum_by-append (λ y. cond (test y) 1 0) (x ∷ []) xs ∙ ap (λ n. n + count_by test xs) one
+use Rattle.sia_diff.specs.DiffSteps.{CountedStep, counted_steps, count_after_step, step_touches, step_fits, touch_count}
 
 pub touches_cons : (count : ℕ) (one : DiffStep) (steps : List DiffStep) (place : ℕ)
     → touch_count count (one ∷ steps) place ≡ cond (step_touches count one place) 1 0 + touch_count (count_after_step count one) steps place
-unfolding touch_count turns
-touches_cons count one steps place = count_cons (λ (turn : Turn). step_touches turn.count turn.step place) (record { count = count; step = one }) (turns (count_after_step count one) steps)
+unfolding touch_count counted_steps
+touches_cons count one steps place = count_cons (λ (counted : CountedStep). step_touches counted.count counted.step place) (record { count = count; step = one }) (counted_steps (count_after_step count one) steps)
 
 pub fits_cons : (count : ℕ) (one : DiffStep) (steps : List DiffStep)
-    → list_all (λ turn. step_fits turn.count turn.step) (turns count (one ∷ steps)) ≡ (step_fits count one && list_all (λ turn. step_fits turn.count turn.step) (turns (count_after_step count one) steps))
-unfolding turns
+    → list_all (λ counted. step_fits counted.count counted.step) (counted_steps count (one ∷ steps)) ≡ (step_fits count one && list_all (λ counted. step_fits counted.count counted.step) (counted_steps (count_after_step count one) steps))
+unfolding counted_steps
 fits_cons count one steps = refl
 
 -- at the step at an index
@@ -32,19 +26,19 @@ touches_next : (count : ℕ) (steps : List DiffStep) (i : ℕ) (d : DiffStep) (p
 touches_next count steps i d place within = ap (λ rest. touch_count count rest place) (drop_more steps i d within) ∙ touches_cons count (get_or steps i d) (drop (i + 1) steps) place
 
 fits_next : (count : ℕ) (steps : List DiffStep) (i : ℕ) (d : DiffStep) → i < length steps
-    → list_all (λ turn. step_fits turn.count turn.step) (turns count (drop i steps))
-    ≡ (step_fits count (get_or steps i d) && list_all (λ turn. step_fits turn.count turn.step) (turns (count_after_step count (get_or steps i d)) (drop (i + 1) steps)))
-fits_next count steps i d within = ap (λ rest. list_all (λ turn. step_fits turn.count turn.step) (turns count rest)) (drop_more steps i d within) ∙ fits_cons count (get_or steps i d) (drop (i + 1) steps)
+    → list_all (λ counted. step_fits counted.count counted.step) (counted_steps count (drop i steps))
+    ≡ (step_fits count (get_or steps i d) && list_all (λ counted. step_fits counted.count counted.step) (counted_steps (count_after_step count (get_or steps i d)) (drop (i + 1) steps)))
+fits_next count steps i d within = ap (λ rest. list_all (λ counted. step_fits counted.count counted.step) (counted_steps count rest)) (drop_more steps i d within) ∙ fits_cons count (get_or steps i d) (drop (i + 1) steps)
 
 pub fits_stop : (count : ℕ) (steps : List DiffStep) (i : ℕ) (d : DiffStep) → i < length steps → step_fits count (get_or steps i d) ≡ false
-    → list_all (λ turn. step_fits turn.count turn.step) (turns count (drop i steps)) ≡ false
+    → list_all (λ counted. step_fits counted.count counted.step) (counted_steps count (drop i steps)) ≡ false
 fits_stop count steps i d within e = fits_next count steps i d within ∙ rw e refl
 
 pub fits_more : (count next : ℕ) (steps : List DiffStep) (i : ℕ) (d : DiffStep) → i < length steps → step_fits count (get_or steps i d) ≡ true → next ≡ count_after_step count (get_or steps i d)
-    → list_all (λ turn. step_fits turn.count turn.step) (turns count (drop i steps)) ≡ list_all (λ turn. step_fits turn.count turn.step) (turns next (drop (i + 1) steps))
+    → list_all (λ counted. step_fits counted.count counted.step) (counted_steps count (drop i steps)) ≡ list_all (λ counted. step_fits counted.count counted.step) (counted_steps next (drop (i + 1) steps))
 fits_more count next steps i d within e is =
-    fits_next count steps i d within ∙ ap (λ b. b && list_all (λ turn. step_fits turn.count turn.step) (turns (count_after_step count (get_or steps i d)) (drop (i + 1) steps))) e
-    ∙ ap (λ n. list_all (λ turn. step_fits turn.count turn.step) (turns n (drop (i + 1) steps))) (sym is)
+    fits_next count steps i d within ∙ ap (λ b. b && list_all (λ counted. step_fits counted.count counted.step) (counted_steps (count_after_step count (get_or steps i d)) (drop (i + 1) steps))) e
+    ∙ ap (λ n. list_all (λ counted. step_fits counted.count counted.step) (counted_steps n (drop (i + 1) steps))) (sym is)
 
 pub left_of_and : (here rest : Bool) → (here && rest) ≡ true → here ≡ true
 left_of_and true rest e = refl
@@ -55,21 +49,21 @@ right_of_and true rest e = e
 right_of_and false rest e = absurd (let no : false ≡ true = e in cc)
 
 -- where all steps that are left fit, the next one does
-pub fits_here : (count : ℕ) (steps : List DiffStep) (i : ℕ) (d : DiffStep) → i < length steps → list_all (λ turn. step_fits turn.count turn.step) (turns count (drop i steps)) ≡ true
+pub fits_here : (count : ℕ) (steps : List DiffStep) (i : ℕ) (d : DiffStep) → i < length steps → list_all (λ counted. step_fits counted.count counted.step) (counted_steps count (drop i steps)) ≡ true
     → step_fits count (get_or steps i d) ≡ true
 fits_here count steps i d within e =
-    left_of_and (step_fits count (get_or steps i d)) (list_all (λ turn. step_fits turn.count turn.step) (turns (count_after_step count (get_or steps i d)) (drop (i + 1) steps))) (sym (fits_next count steps i d within) ∙ e)
+    left_of_and (step_fits count (get_or steps i d)) (list_all (λ counted. step_fits counted.count counted.step) (counted_steps (count_after_step count (get_or steps i d)) (drop (i + 1) steps))) (sym (fits_next count steps i d within) ∙ e)
 
-fits_none : (count : ℕ) (steps : List DiffStep) → length steps ≡ 0 → list_all (λ turn. step_fits turn.count turn.step) (turns count steps) ≡ true
-unfolding turns
+fits_none : (count : ℕ) (steps : List DiffStep) → length steps ≡ 0 → list_all (λ counted. step_fits counted.count counted.step) (counted_steps count steps) ≡ true
+unfolding counted_steps
 fits_none count [] none = refl
 fits_none count (one ∷ steps) none = absurd (let some : 0 < length (one ∷ steps) = omega arith in omega arith)
 
-pub fits_done : (count : ℕ) (steps : List DiffStep) (i : ℕ) → length steps ≤ i → list_all (λ turn. step_fits turn.count turn.step) (turns count (drop i steps)) ≡ true
+pub fits_done : (count : ℕ) (steps : List DiffStep) (i : ℕ) → length steps ≤ i → list_all (λ counted. step_fits counted.count counted.step) (counted_steps count (drop i steps)) ≡ true
 fits_done count steps i past = fits_none count (drop i steps) (omega (arith, length-drop i steps))
 
 touches_none : (count : ℕ) (steps : List DiffStep) (place : ℕ) → length steps ≡ 0 → touch_count count steps place ≡ 0
-unfolding touch_count turns
+unfolding touch_count counted_steps
 touches_none count [] place none = refl
 touches_none count (one ∷ steps) place none = absurd (let some : 0 < length (one ∷ steps) = omega arith in omega arith)
 

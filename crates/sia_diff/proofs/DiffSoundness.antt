@@ -6,19 +6,18 @@ use Rattle.std.specs.List.{range_with_len, list_all, filter}
 use Rattle.std.proofs.lemmas.Bool.{lt-leb, lt-ltb, ltb-true, ltb-false}
 use Rattle.std.proofs.lemmas.List.{length-map, get_or_past}
 use Rattle.std.proofs.lemmas.List.FromFn.{length-range_with_len, get_or-map-range_with_len}
-use Rattle.sia_merkle.specs.Computations.{Tree, hash_of, Collides}
+use Rattle.sia_merkle.specs.Computations.{AreHashes, Tree, hash_of, Collides}
 use Rattle.sia_merkle.specs.Computations.Tree.{Given}
 use Rattle.sia_merkle.specs.Roots.{first_hash, node_root_of}
 use Rattle.sia_merkle.specs.Segments.{cover, others, joined_within, Joins}
-use Rattle.sia_merkle.proofs.LeafSoundness.{AreSized, sized_told}
-use Rattle.sia_range.proofs.Joins.{hash_given}
-use Rattle.sia_range.proofs.OwnWholes.{own_joins, own_whole, own_roots}
-use Rattle.sia_range.proofs.RangeSoundness.{roots_sized}
-use Rattle.sia_range.proofs.SameCovers.{AgreeAt, AreWithin, cover_roots_same}
-use Rattle.sia_range.proofs.Soundness.{given_sized, given_shapes, joins_collide}
+use Rattle.sia_merkle.proofs.LeafSoundness.{sized_at}
+use Rattle.sia_cover.proofs.Joins.{hash_given}
+use Rattle.sia_cover.proofs.OwnWholes.{own_joins, own_whole, own_roots}
+use Rattle.sia_cover.proofs.SameCovers.{AgreeAt, AreWithin, cover_roots_same}
+use Rattle.sia_cover.proofs.Soundness.{roots_sized, given_sized, given_shapes, joins_collide}
 use Rattle.sia_diff.specs.declared.steps.DiffStep.{DiffStep}
-use Rattle.sia_diff.specs.Diffs.{touched_or_new, hashes_at, old_tree, spread, moved, new_tree, IsDiffOf, own_leaves, own_nodes, IsOwnDiff}
-use Rattle.sia_diff.specs.Steps.{turns, after, count_after, is_touched, is_fit, step_fits, touch_count, touched_places}
+use Rattle.sia_diff.specs.Diffs.{touched_or_new, hashes_at, old_tree, spread, moved_hashes, new_tree, IsDiffOf, own_leaves, own_nodes, IsOwnDiff}
+use Rattle.sia_diff.specs.DiffSteps.{counted_steps, after, count_after, is_touched, is_fit, step_fits, touch_count, touched_places}
 use Rattle.sia_diff.proofs.Agreement.{AgreeOn, agree_after, keep_after}
 use Rattle.sia_diff.proofs.Counts.{filter_row}
 use Rattle.sia_diff.proofs.Fit.{fit_done}
@@ -79,9 +78,9 @@ unfolding is_touched
 touches_chosen count steps place more = or_true (nat_le count place) (nat_lt 0 (touch_count count steps place)) (lt-ltb _ _ more)
 
 -- after the steps, the moved hashes are those of the list
-pub moved_agree : (hashes : List (List ℕ)) (steps : List DiffStep) → list_all (λ turn. step_fits turn.count turn.step) (turns (length hashes) steps) ≡ true
-    → AgreeOn (touched_or_new (length hashes) steps) (after hashes steps) (moved (length hashes) steps (own_leaves hashes steps))
-unfolding moved
+pub moved_agree : (hashes : List (List ℕ)) (steps : List DiffStep) → list_all (λ counted. step_fits counted.count counted.step) (counted_steps (length hashes) steps) ≡ true
+    → AgreeOn (touched_or_new (length hashes) steps) (after hashes steps) (moved_hashes (length hashes) steps (own_leaves hashes steps))
+unfolding moved_hashes
 moved_agree hashes steps fits =
     let chosen = touched_or_new (length hashes) steps in
     let start : AgreeOn (touched_or_new (length hashes) steps) hashes (spread (touched_or_new (length hashes) steps) (range_with_len 0 (length hashes)) (own_leaves hashes steps)) =
@@ -100,7 +99,7 @@ map_agree chosen first second [] each = refl
 map_agree chosen first second (place ∷ places) each = map_by chosen first second place places (map_agree chosen first second places each) (each place) (chosen place) refl
 
 -- the cover of the untouched places keeps its roots
-kept_nodes : (hashes : List (List ℕ)) (steps : List DiffStep) → list_all (λ turn. step_fits turn.count turn.step) (turns (length hashes) steps) ≡ true
+kept_nodes : (hashes : List (List ℕ)) (steps : List DiffStep) → list_all (λ counted. step_fits counted.count counted.step) (counted_steps (length hashes) steps) ≡ true
     → own_nodes hashes steps ≡ own_roots (touched_or_new (length hashes) steps) (after hashes steps)
 kept_nodes hashes steps fits =
     let len : length (after hashes steps) ≡ count_after (length hashes) steps = length_after hashes steps (length hashes) refl fits in
@@ -109,14 +108,14 @@ kept_nodes hashes steps fits =
     λ place within e. sym (keep_after steps (length hashes) place hashes refl within fits ((untouched_at (length hashes) steps place e).1)) in
     cover_roots_same (others (touched_or_new (length hashes) steps)) hashes (after hashes steps) (within_before (length hashes) steps) later agree
 
-pub own_new : (hashes : List (List ℕ)) (steps : List DiffStep) → list_all (λ turn. step_fits turn.count turn.step) (turns (length hashes) steps) ≡ true
+pub own_new : (hashes : List (List ℕ)) (steps : List DiffStep) → list_all (λ counted. step_fits counted.count counted.step) (counted_steps (length hashes) steps) ≡ true
     → hash_of (new_tree (length hashes) steps (own_leaves hashes steps) (own_nodes hashes steps)) ≡ node_root_of (after hashes steps)
 unfolding new_tree
 own_new hashes steps fits =
     let len : count_after (length hashes) steps ≡ length (after hashes steps) = sym (length_after hashes steps (length hashes) refl fits) in
-    let leaves : hashes_at (touched_or_new (length hashes) steps) (moved (length hashes) steps (own_leaves hashes steps)) (count_after (length hashes) steps)
+    let leaves : hashes_at (touched_or_new (length hashes) steps) (moved_hashes (length hashes) steps (own_leaves hashes steps)) (count_after (length hashes) steps)
     ≡ hashes_at (touched_or_new (length hashes) steps) (after hashes steps) (count_after (length hashes) steps) =
-    map_agree (touched_or_new (length hashes) steps) (λ place. get_or (moved (length hashes) steps (own_leaves hashes steps)) place []) (λ place. get_or (after hashes steps) place []) (range_with_len 0 (count_after (length hashes) steps))
+    map_agree (touched_or_new (length hashes) steps) (λ place. get_or (moved_hashes (length hashes) steps (own_leaves hashes steps)) place []) (λ place. get_or (after hashes steps) place []) (range_with_len 0 (count_after (length hashes) steps))
     (λ place here. sym (moved_agree hashes steps fits place here)) in
     ap (λ hs. hash_of (joined_within (touched_or_new (length hashes) steps) (count_after (length hashes) steps) (count_after (length hashes) steps) 0 (map Given hs) (own_nodes hashes steps))) leaves
     ∙ ap (λ roots. hash_of (joined_within (touched_or_new (length hashes) steps) (count_after (length hashes) steps) (count_after (length hashes) steps) 0
@@ -125,11 +124,11 @@ own_new hashes steps fits =
     ∙ own_whole (touched_or_new (length hashes) steps) (after hashes steps)
 
 -- each hash has 32 bytes
-map_sized : (get : ℕ → List ℕ) (places : List ℕ) → ((k : ℕ) → k < length places → length (get (get_or places k 0)) ≡ 32) → AreSized (map get places)
+map_sized : (get : ℕ → List ℕ) (places : List ℕ) → ((k : ℕ) → k < length places → length (get (get_or places k 0)) ≡ 32) → AreHashes (map get places)
 map_sized get [] each = tt
 map_sized get (place ∷ places) each = (each 0 (omega arith), map_sized get places (λ k within. each (suc k) (omega arith)))
 
-own_sized : (hashes : List (List ℕ)) (steps : List DiffStep) → ((i : ℕ) → i < length hashes → length (get_or hashes i []) ≡ 32) → AreSized (own_leaves hashes steps)
+own_sized : (hashes : List (List ℕ)) (steps : List DiffStep) → ((i : ℕ) → i < length hashes → length (get_or hashes i []) ≡ 32) → AreHashes (own_leaves hashes steps)
 own_sized hashes steps told =
     map_sized (λ place. get_or hashes place []) (touched_places (length hashes) steps) (λ k within. told (get_or (touched_places (length hashes) steps) k 0) (touched_below (length hashes) steps k 0 within))
 
@@ -140,7 +139,7 @@ given_back (hash ∷ hashes) = ap (λ h. h ∷ map hash_of (map Given hashes)) (
 same_given : (first second : List (List ℕ)) → map Given first ≡ map Given second → first ≡ second
 same_given first second same = sym (given_back first) ∙ ap (map hash_of) same ∙ given_back second
 
-another_by : (hashes : List (List ℕ)) (steps : List DiffStep) (leaves nodes : List (List ℕ)) → list_all (λ turn. step_fits turn.count turn.step) (turns (length hashes) steps) ≡ true → (tree other : Tree)
+another_by : (hashes : List (List ℕ)) (steps : List DiffStep) (leaves nodes : List (List ℕ)) → list_all (λ counted. step_fits counted.count counted.step) (counted_steps (length hashes) steps) ≡ true → (tree other : Tree)
     → ((map Given (own_leaves hashes steps) ≡ map Given leaves) × (own_nodes hashes steps ≡ nodes)) ⊎ Collides tree other → IsOwnDiff hashes steps leaves nodes ⊎ Collides tree other
 another_by hashes steps leaves nodes fits tree other (inl same) =
     let first : leaves ≡ own_leaves hashes steps = sym (same_given (own_leaves hashes steps) leaves same.0) in
@@ -153,13 +152,13 @@ another_by hashes steps leaves nodes fits tree other (inl same) =
 another_by hashes steps leaves nodes fits tree other (inr clash) = inr clash
 
 pub another_diff : (hashes : List (List ℕ)) (root : List ℕ) (leaves nodes : List (List ℕ)) (steps : List DiffStep) → is_fit (length hashes) steps ≡ true → node_root_of hashes ≡ root
-    → ((i : ℕ) → i < length hashes → length (get_or hashes i []) ≡ 32) → AreSized leaves → AreSized nodes → IsDiffOf root (length hashes) steps leaves nodes
+    → AreHashes hashes → AreHashes leaves → AreHashes nodes → IsDiffOf root (length hashes) steps leaves nodes
     → IsOwnDiff hashes steps leaves nodes ⊎ Collides (old_tree (length hashes) steps (own_leaves hashes steps) (own_nodes hashes steps)) (old_tree (length hashes) steps leaves nodes)
-another_diff hashes root leaves nodes steps fit is told leaves_sized nodes_sized diff =
+another_diff hashes root leaves nodes steps fit is sized leaves_sized nodes_sized diff =
     let own = own_diff hashes steps in
     let counts : length (own_leaves hashes steps) ≡ length leaves = sym (length-map (own_leaves hashes steps) Given) ∙ own.joins.places ∙ sym diff.joins.places ∙ length-map leaves Given in
     another_by hashes steps leaves nodes (fit_done (length hashes) steps fit) (old_tree (length hashes) steps (own_leaves hashes steps) (own_nodes hashes steps)) (old_tree (length hashes) steps leaves nodes)
     (joins_collide (touched_or_new (length hashes) steps) (length hashes) (map Given (own_leaves hashes steps)) (map Given leaves) (own_nodes hashes steps) nodes
     (old_tree (length hashes) steps (own_leaves hashes steps) (own_nodes hashes steps)) (old_tree (length hashes) steps leaves nodes) own.joins diff.joins
-    (given_sized (own_leaves hashes steps) (own_sized hashes steps told)) (roots_sized hashes (cover (others (touched_or_new (length hashes) steps)) (length hashes)) (sized_told hashes told))
+    (given_sized (own_leaves hashes steps) (own_sized hashes steps (sized_at hashes sized))) (roots_sized hashes (cover (others (touched_or_new (length hashes) steps)) (length hashes)) sized)
     (given_sized leaves leaves_sized) nodes_sized (given_shapes (own_leaves hashes steps) leaves counts) (own.gives ∙ is ∙ sym diff.gives))

@@ -8,14 +8,14 @@ use Rattle.std.proofs.lemmas.Bool.Decides.{nat_tests}
 use Rattle.sia_diff.specs.declared.steps.DiffStep.{DiffStep}
 use Rattle.sia_diff.specs.declared.steps.DiffStep.TheVariants as step
 use Rattle.sia_diff.specs.Marks.{HasCounts, is_counted, is_counted_once}
-use Rattle.sia_diff.specs.Steps.{turns, step_fits, touch_count, is_touched, touched_places, is_alone, is_fit}
+use Rattle.sia_diff.specs.DiffSteps.{counted_steps, step_fits, touch_count, is_touched, touched_places, is_alone, is_fit}
 use Rattle.sia_diff.proofs.Counts.{filter_row, left_of_and, right_of_and}
 
 pub too_many : (count : ℕ) (steps : List DiffStep) → 65536 < count → is_fit count steps ≡ false
 unfolding is_fit
 too_many count steps more = rw (lt-leb count 65536 more) refl
 
-pub not_done : (count : ℕ) (steps : List DiffStep) → list_all (λ turn. step_fits turn.count turn.step) (turns count steps) ≡ false → is_fit count steps ≡ false
+pub not_done : (count : ℕ) (steps : List DiffStep) → list_all (λ counted. step_fits counted.count counted.step) (counted_steps count steps) ≡ false → is_fit count steps ≡ false
 unfolding is_fit
 not_done count steps e = rw (e, and-false (nat_le count 65536)) refl
 
@@ -43,7 +43,7 @@ alone_all counts count steps has (one ∷ some) =
 
 pub not_alone : (count : ℕ) (steps : List DiffStep) → list_all (is_alone count steps) steps ≡ false → is_fit count steps ≡ false
 unfolding is_fit
-not_alone count steps e = rw (e, and-false (nat_le count 65536 && list_all (λ turn. step_fits turn.count turn.step) (turns count steps))) refl
+not_alone count steps e = rw (e, and-false (nat_le count 65536 && list_all (λ counted. step_fits counted.count counted.step) (counted_steps count steps))) refl
 
 pub places_same : (counts : List ℕ) (count : ℕ) (steps : List DiffStep) → HasCounts counts count steps → filter (is_counted counts) (range_with_len 0 (length counts)) ≡ touched_places count steps
 unfolding touched_places is_touched
@@ -55,7 +55,7 @@ pub too_touched : (count : ℕ) (steps : List DiffStep) → 1024 < length (touch
 unfolding is_fit
 too_touched count steps more = rw (lt-leb (length (touched_places count steps)) 1024 more) (and-false _)
 
-pub all_fit : (count : ℕ) (steps : List DiffStep) → count ≤ 65536 → list_all (λ turn. step_fits turn.count turn.step) (turns count steps) ≡ true → list_all (is_alone count steps) steps ≡ true
+pub all_fit : (count : ℕ) (steps : List DiffStep) → count ≤ 65536 → list_all (λ counted. step_fits counted.count counted.step) (counted_steps count steps) ≡ true → list_all (is_alone count steps) steps ≡ true
     → length (touched_places count steps) ≤ 1024 → is_fit count steps ≡ true
 unfolding is_fit
 all_fit count steps fits done alone few = rw (le-leb count 65536 fits, done, alone, le-leb (length (touched_places count steps)) 1024 few) refl
@@ -65,7 +65,7 @@ pub fit_count : (count : ℕ) (steps : List DiffStep) → is_fit count steps ≡
 unfolding is_fit
 fit_count count steps e = leb-true _ _ (left_of_and _ _ (left_of_and _ _ (left_of_and _ _ e)))
 
-pub fit_done : (count : ℕ) (steps : List DiffStep) → is_fit count steps ≡ true → list_all (λ turn. step_fits turn.count turn.step) (turns count steps) ≡ true
+pub fit_done : (count : ℕ) (steps : List DiffStep) → is_fit count steps ≡ true → list_all (λ counted. step_fits counted.count counted.step) (counted_steps count steps) ≡ true
 unfolding is_fit
 fit_done count steps e = right_of_and _ _ (left_of_and _ _ (left_of_and _ _ e))
 

@@ -5,6 +5,5 @@ pub mod DiffSoundness
 pub mod Fit
 pub mod Listed
 pub mod Moves
-pub mod Parts
 pub mod Verdicts
 mod Rows

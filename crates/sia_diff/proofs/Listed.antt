@@ -12,7 +12,7 @@ use Rattle.std.proofs.Math.Bool.{and-true}
 use Rattle.sia_diff.specs.declared.steps.DiffStep.{DiffStep}
 use Rattle.sia_diff.specs.Chosen.{ArePlaces, is_listed, is_chosen}
 use Rattle.sia_diff.specs.Diffs.{touched_or_new}
-use Rattle.sia_diff.specs.Steps.{is_touched, touched_places}
+use Rattle.sia_diff.specs.DiffSteps.{is_touched, touched_places}
 use Rattle.sia_diff.proofs.Below.{row_within}
 use Rattle.sia_diff.proofs.Counts.{filter_row}
 

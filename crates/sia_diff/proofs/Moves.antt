@@ -12,8 +12,9 @@ use Rattle.sia_merkle.specs.Segments.{segment_root}
 use Rattle.sia_diff.specs.declared.steps.DiffStep.{DiffStep}
 use Rattle.sia_diff.specs.declared.steps.DiffStep.TheVariants as step
 use Rattle.sia_diff.specs.Diffs.{hashes_at, spread}
-use Rattle.sia_diff.specs.Steps.{turns, after, after_step, count_after, count_after_step, step_touches, step_fits, touch_count}
-use Rattle.sia_diff.proofs.Below.{below_next, below_parts}
+use Rattle.sia_diff.specs.DiffSteps.{counted_steps, after, after_step, count_after, count_after_step, step_touches, step_fits, touch_count}
+use Rattle.sia_cover.proofs.Counts.{below_parts}
+use Rattle.sia_diff.proofs.Below.{below_next}
 use Rattle.sia_diff.proofs.Counts.{filter_not, filter_one, fits_cons, left_of_and, right_of_and, touches_cons}
 
 -- how long a list is after one step
@@ -35,14 +36,14 @@ after_none hashes (one ∷ steps) none = absurd (let some : 0 < length (one ∷ 
 pub after_done : (hashes : List (List ℕ)) (steps : List DiffStep) (i : ℕ) → length steps ≤ i → after hashes (drop i steps) ≡ hashes
 after_done hashes steps i past = after_none hashes (drop i steps) (omega (arith, length-drop i steps))
 
-pub first_fits : (count : ℕ) (one : DiffStep) (steps : List DiffStep) → list_all (λ turn. step_fits turn.count turn.step) (turns count (one ∷ steps)) ≡ true → step_fits count one ≡ true
+pub first_fits : (count : ℕ) (one : DiffStep) (steps : List DiffStep) → list_all (λ counted. step_fits counted.count counted.step) (counted_steps count (one ∷ steps)) ≡ true → step_fits count one ≡ true
 first_fits count one steps fits = left_of_and _ _ (sym (fits_cons count one steps) ∙ fits)
 
-pub rest_fits : (count : ℕ) (one : DiffStep) (steps : List DiffStep) → list_all (λ turn. step_fits turn.count turn.step) (turns count (one ∷ steps)) ≡ true
-    → list_all (λ turn. step_fits turn.count turn.step) (turns (count_after_step count one) steps) ≡ true
+pub rest_fits : (count : ℕ) (one : DiffStep) (steps : List DiffStep) → list_all (λ counted. step_fits counted.count counted.step) (counted_steps count (one ∷ steps)) ≡ true
+    → list_all (λ counted. step_fits counted.count counted.step) (counted_steps (count_after_step count one) steps) ≡ true
 rest_fits count one steps fits = right_of_and _ _ (sym (fits_cons count one steps) ∙ fits)
 
-pub length_after : (hashes : List (List ℕ)) (steps : List DiffStep) (count : ℕ) → length hashes ≡ count → list_all (λ turn. step_fits turn.count turn.step) (turns count steps) ≡ true → length (after hashes steps) ≡ count_after count steps
+pub length_after : (hashes : List (List ℕ)) (steps : List DiffStep) (count : ℕ) → length hashes ≡ count → list_all (λ counted. step_fits counted.count counted.step) (counted_steps count steps) ≡ true → length (after hashes steps) ≡ count_after count steps
 unfolding after count_after
 length_after hashes [] count is fits = is
 length_after hashes (one ∷ steps) count is fits =
@@ -56,7 +57,7 @@ step_bound count (step.Trim fewer) bound fits = omega arith
 step_bound count (step.Swap i j) bound fits = bound
 step_bound count (step.Set i hash) bound fits = bound
 
-pub count_bound : (count : ℕ) (steps : List DiffStep) → count ≤ 65536 → list_all (λ turn. step_fits turn.count turn.step) (turns count steps) ≡ true → count_after count steps ≤ 65536
+pub count_bound : (count : ℕ) (steps : List DiffStep) → count ≤ 65536 → list_all (λ counted. step_fits counted.count counted.step) (counted_steps count steps) ≡ true → count_after count steps ≤ 65536
 unfolding count_after
 count_bound count [] bound fits = bound
 count_bound count (one ∷ steps) bound fits = count_bound (count_after_step count one) steps (step_bound count one bound (first_fits count one steps fits)) (rest_fits count one steps fits)

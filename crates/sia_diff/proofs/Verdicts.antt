@@ -1,59 +1,41 @@
 -- What the check of a diff answers.
-use Rattle.std.proofs.Common.{◌≡◌, ◌≢◌, ℕ, ◌<◌, ◌≤◌, true, false, List, length, map, refl, sym, ◌∙◌, ap, subst, arith}
-use Rattle.std.specs.Prelude.{Bool, not, ◌||◌, nat_eq, nat_le, nat_lt, IsTrue, ◌↔◌, count_by}
+use Rattle.std.proofs.Common.{◌≡◌, ℕ, ◌<◌, ◌≤◌, true, false, List, length, map, refl, sym, ◌∙◌, ap, subst, arith}
+use Rattle.std.specs.Prelude.{Bool, not, ◌||◌, nat_le, nat_lt}
 use Rattle.std.specs.List.{range_with_len, list_all}
-use Rattle.std.specs.Cmp.Lexicographic.{pointwise, same_text}
 use Rattle.std.proofs.lemmas.Bool.{leb-false, ltb-false}
-use Rattle.std.proofs.lemmas.List.{length-map}
 use Rattle.std.proofs.lemmas.List.FromFn.{length-range_with_len}
 use Rattle.sia_merkle.specs.Computations.{hash_of}
 use Rattle.sia_merkle.specs.Computations.Tree.{Given}
 use Rattle.sia_merkle.specs.Segments.{cover, others, joined_within}
-use Rattle.sia_range.proofs.Judging.{one_text}
-use Rattle.sia_range.proofs.SameCovers.{AreWithin, cover_same}
+use Rattle.sia_cover.proofs.SameCovers.{AreWithin, cover_same}
 use Rattle.sia_diff.specs.declared.steps.DiffStep.{DiffStep}
-use Rattle.sia_diff.specs.Chosen.{JoinTo}
-use Rattle.sia_diff.specs.Diffs.{touched_or_new, hashes_at, old_tree, spread, moved, new_tree, IsDiffOf}
-use Rattle.sia_diff.specs.Steps.{turns, after, count_after, is_touched, step_fits, touch_count}
+use Rattle.sia_cover.specs.Joined.{JoinTo}
+use Rattle.sia_diff.specs.Diffs.{touched_or_new, hashes_at, old_tree, spread, moved_hashes, new_tree, IsDiffOf}
+use Rattle.sia_diff.specs.DiffSteps.{counted_steps, after, count_after, is_touched, step_fits, touch_count}
 use Rattle.sia_diff.proofs.Moves.{keeps_within, length_after, length_spread}
 
-pub misplaced : (chosen : ℕ → Bool) (count : ℕ) (inner outer : List (List ℕ)) (root : List ℕ) → length inner ≢ count_by chosen (range_with_len 0 count) → IsTrue false ↔ JoinTo chosen count inner outer root
-misplaced chosen count inner outer root apart =
-    ((λ yes. absurd (let no : false ≡ true = yes in cc)), (λ join. absurd (apart (sym (length-map inner Given) ∙ join.0.places))))
-
-pub uncovered : (chosen : ℕ → Bool) (count : ℕ) (inner outer : List (List ℕ)) (root : List ℕ) → length outer ≢ length (cover (others chosen) count) → IsTrue false ↔ JoinTo chosen count inner outer root
-uncovered chosen count inner outer root apart =
-    ((λ yes. absurd (let no : false ≡ true = yes in cc)), (λ join. absurd (apart join.0.segments)))
-
-pub judged : (chosen : ℕ → Bool) (count : ℕ) (inner outer : List (List ℕ)) (root found : List ℕ) (answer : Bool) → length inner ≡ count_by chosen (range_with_len 0 count) → length outer ≡ length (cover (others chosen) count)
-    → found ≡ hash_of (joined_within chosen count count 0 (map Given inner) outer) → answer ≡ pointwise nat_eq found root → IsTrue answer ↔ JoinTo chosen count inner outer root
-judged chosen count inner outer root found answer places segments is told = (
-  (λ yes. (record { places = length-map inner Given ∙ places; segments = segments; joined = refl }, sym is ∙ same_text found root (sym (sym told ∙ yes)))),
-  (λ join. told ∙ one_text found root (is ∙ join.1)),
-)
-
 -- what joins at the chosen places is a diff of its definition
-diff_of : (count : ℕ) (steps : List DiffStep) (leaves nodes : List (List ℕ)) (root : List ℕ) → JoinTo (touched_or_new count steps) count leaves nodes root → IsDiffOf root count steps leaves nodes
+diff_of : (count : ℕ) (steps : List DiffStep) (leaves nodes : List (List ℕ)) (root : List ℕ) → JoinTo (touched_or_new count steps) count (map Given leaves) nodes root → IsDiffOf root count steps leaves nodes
 unfolding old_tree
 diff_of count steps leaves nodes root join = record { joins = join.0; gives = join.1 }
 
-of_diff : (count : ℕ) (steps : List DiffStep) (leaves nodes : List (List ℕ)) (root : List ℕ) → IsDiffOf root count steps leaves nodes → JoinTo (touched_or_new count steps) count leaves nodes root
+of_diff : (count : ℕ) (steps : List DiffStep) (leaves nodes : List (List ℕ)) (root : List ℕ) → IsDiffOf root count steps leaves nodes → JoinTo (touched_or_new count steps) count (map Given leaves) nodes root
 unfolding old_tree
 of_diff count steps leaves nodes root diff = (diff.joins, diff.gives)
 
 pub to_diff : (chosen : ℕ → Bool) (count : ℕ) (steps : List DiffStep) (inner leaves outer nodes : List (List ℕ)) (root : List ℕ) → chosen ≡ touched_or_new count steps → inner ≡ leaves → outer ≡ nodes
-    → JoinTo chosen count inner outer root → IsDiffOf root count steps leaves nodes
+    → JoinTo chosen count (map Given inner) outer root → IsDiffOf root count steps leaves nodes
 to_diff chosen count steps inner leaves outer nodes root is first second join =
-    let here : JoinTo (touched_or_new count steps) count inner outer root = subst (λ (c : ℕ → Bool). JoinTo c count inner outer root) is join in
-    let with_leaves : JoinTo (touched_or_new count steps) count leaves outer root = subst (λ (hs : List (List ℕ)). JoinTo (touched_or_new count steps) count hs outer root) first here in
-    diff_of count steps leaves nodes root (subst (λ (hs : List (List ℕ)). JoinTo (touched_or_new count steps) count leaves hs root) second with_leaves)
+    let here : JoinTo (touched_or_new count steps) count (map Given inner) outer root = subst (λ (c : ℕ → Bool). JoinTo c count (map Given inner) outer root) is join in
+    let with_leaves : JoinTo (touched_or_new count steps) count (map Given leaves) outer root = subst (λ (hs : List (List ℕ)). JoinTo (touched_or_new count steps) count (map Given hs) outer root) first here in
+    diff_of count steps leaves nodes root (subst (λ (hs : List (List ℕ)). JoinTo (touched_or_new count steps) count (map Given leaves) hs root) second with_leaves)
 
 pub from_diff : (chosen : ℕ → Bool) (count : ℕ) (steps : List DiffStep) (inner leaves outer nodes : List (List ℕ)) (root : List ℕ) → chosen ≡ touched_or_new count steps → inner ≡ leaves → outer ≡ nodes
-    → IsDiffOf root count steps leaves nodes → JoinTo chosen count inner outer root
+    → IsDiffOf root count steps leaves nodes → JoinTo chosen count (map Given inner) outer root
 from_diff chosen count steps inner leaves outer nodes root is first second diff =
-    let here : JoinTo chosen count leaves nodes root = subst (λ (c : ℕ → Bool). JoinTo c count leaves nodes root) (sym is) (of_diff count steps leaves nodes root diff) in
-    let with_inner : JoinTo chosen count inner nodes root = subst (λ (hs : List (List ℕ)). JoinTo chosen count hs nodes root) (sym first) here in
-    subst (λ (hs : List (List ℕ)). JoinTo chosen count inner hs root) (sym second) with_inner
+    let here : JoinTo chosen count (map Given leaves) nodes root = subst (λ (c : ℕ → Bool). JoinTo c count (map Given leaves) nodes root) (sym is) (of_diff count steps leaves nodes root diff) in
+    let with_inner : JoinTo chosen count (map Given inner) nodes root = subst (λ (hs : List (List ℕ)). JoinTo chosen count (map Given hs) nodes root) (sym first) here in
+    subst (λ (hs : List (List ℕ)). JoinTo chosen count (map Given inner) hs root) (sym second) with_inner
 
 -- the untouched places are there before and after
 untouched_by : (count : ℕ) (steps : List DiffStep) (place : ℕ) → (new touched : Bool) → nat_le count place ≡ new → nat_lt 0 (touch_count count steps place) ≡ touched → not (new || touched) ≡ true
@@ -80,7 +62,7 @@ new_cover first second count len steps first_is second_is is =
     ∙ sym (ap (λ (c : ℕ → Bool). length (cover (others c) len)) second_is ∙ ap (λ n. length (cover (others (touched_or_new count steps)) n)) is)
 
 -- how many hashes there are after the steps
-pub moved_count : (chosen : ℕ → Bool) (count : ℕ) (steps : List DiffStep) (leaves hashes : List (List ℕ)) → list_all (λ turn. step_fits turn.count turn.step) (turns count steps) ≡ true
+pub moved_count : (chosen : ℕ → Bool) (count : ℕ) (steps : List DiffStep) (leaves hashes : List (List ℕ)) → list_all (λ counted. step_fits counted.count counted.step) (counted_steps count steps) ≡ true
     → hashes ≡ after (spread chosen (range_with_len 0 count) leaves) steps → length hashes ≡ count_after count steps
 moved_count chosen count steps leaves hashes fits is =
     ap length is ∙ length_after (spread chosen (range_with_len 0 count) leaves) steps count (length_spread chosen (range_with_len 0 count) leaves ∙ length-range_with_len 0 count) fits
@@ -88,7 +70,7 @@ moved_count chosen count steps leaves hashes fits is =
 pub new_root : (first second : ℕ → Bool) (count len : ℕ) (steps : List DiffStep) (inner leaves outer nodes hashes chosen : List (List ℕ)) → first ≡ touched_or_new count steps → second ≡ touched_or_new count steps
     → len ≡ count_after count steps → inner ≡ leaves → outer ≡ nodes → hashes ≡ after (spread first (range_with_len 0 count) inner) steps → chosen ≡ hashes_at second hashes len
     → hash_of (joined_within second len len 0 (map Given chosen) outer) ≡ hash_of (new_tree count steps leaves nodes)
-unfolding new_tree moved
+unfolding new_tree moved_hashes
 new_root first second count len steps inner leaves outer nodes hashes chosen first_is second_is len_is leaves_is nodes_is hashes_is chosen_is =
     let all : hashes ≡ after (spread (touched_or_new count steps) (range_with_len 0 count) leaves) steps =
     hashes_is ∙ ap (λ (c : ℕ → Bool). after (spread c (range_with_len 0 count) inner) steps) first_is ∙ ap (λ hs. after (spread (touched_or_new count steps) (range_with_len 0 count) hs) steps) leaves_is in

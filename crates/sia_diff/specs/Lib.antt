@@ -1,4 +1,4 @@
 pub mod Chosen
 pub mod Diffs
 pub mod Marks
-pub mod Steps
+pub mod DiffSteps

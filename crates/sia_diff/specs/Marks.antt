@@ -2,7 +2,7 @@
 use Rattle.std.specs.Prelude.{ℕ, ◌+◌, ◌<◌, ◌≡◌, nat_lt, nat_eq, min, Bool, true, ◌&&◌, cond, List, length, slice_index_or}
 use Rattle.sia_diff.specs.declared.steps.DiffStep.{DiffStep}
 use Rattle.sia_diff.specs.declared.steps.DiffStep.TheVariants as step
-use Rattle.sia_diff.specs.Steps.{touch_count}
+use Rattle.sia_diff.specs.DiffSteps.{touch_count}
 
 -- each place that passes the test is counted once more
 abbrev pub AreCounted : (ℕ → Bool) → List ℕ → List ℕ → Type 0

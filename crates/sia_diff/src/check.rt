@@ -1,18 +1,16 @@
 //! Checks a diff against the old root, and computes the new one.
-ghost use Rattle.std.specs.Prelude.{◌≡◌, ◌↔◌, IfOk, IfSome, IsSome, IsTrue, length};
+ghost use Rattle.std.specs.Prelude.{◌≡◌, ◌↔◌, IfOk, IfSome, IsSome, IsTrue};
 ghost use Rattle.sia_merkle.specs.Computations.{hash_of};
-ghost use Rattle.sia_merkle.specs.Segments.{cover, others};
-ghost use Rattle.sia_diff.specs.Chosen.{is_chosen, JoinTo};
 ghost use Rattle.sia_diff.specs.Diffs.{IsDiffOf, new_tree};
-ghost use Rattle.sia_diff.specs.Steps.{is_fit};
+ghost use Rattle.sia_diff.specs.DiffSteps.{is_fit};
 
 use crate::chosen::Chosen;
-use crate::cover::cover_len;
-use crate::join::{HEIGHT, join};
 use crate::moving::{hashes_chosen, moved};
 use crate::places::touched_by_fit;
 use crate::steps::DiffStep;
 use sia_blake::Hash;
+use sia_cover::{join, joins_to};
+use sia_merkle::PlainNodes;
 use sia_types::DiffProof;
 use std::alloc::{AllocError, Global};
 
@@ -31,48 +29,20 @@ pub fn check_diff(
     ensures root { IfOk result (λ answer. IfSome answer (λ root. root ≡ hash_of (new_tree n steps.now proof.now.leaves proof.now.nodes))) }
 {
     let touched = touched_by_fit(alloc, n, steps)?;
+    let chosen = Chosen {
+        old: n,
+        touched: touched.as_slice(),
+    };
     let leaves = proof.leaves.as_slice();
     let nodes = proof.nodes.as_slice();
-    let before = Chosen {
-        count: n,
-        old: n,
-        touched: touched.as_slice(),
-    };
-    if !joins_to(&before, leaves, nodes, old) {
+    if !joins_to(&chosen, n, &PlainNodes { hashes: leaves }, nodes, old) {
         return Ok(None);
     }
-    let hashes = moved(alloc, &before, leaves, steps)?;
-    let after = Chosen {
-        count: hashes.len() as u64,
-        old: n,
-        touched: touched.as_slice(),
+    let hashes = moved(alloc, &chosen, n, leaves, steps)?;
+    let count = hashes.len() as u64;
+    let inner = hashes_chosen(alloc, &chosen, hashes.as_slice())?;
+    let row = PlainNodes {
+        hashes: inner.as_slice(),
     };
-    let inner = hashes_chosen(alloc, &after, hashes.as_slice())?;
-    let root = join(&after, inner.as_slice(), nodes);
-    Ok(Some(root))
-}
-
-/// Whether hashes at the chosen places and roots of the cover of all others join to a root, and none is missing or left
-/// over.
-fn joins_to(chosen: &Chosen<'_>, inner: &[Hash], outer: &[Hash], root: &Hash) -> bool
-    ensures { IsTrue result ↔ JoinTo (is_chosen chosen.now.old chosen.now.touched.now) chosen.now.count inner.now outer.now root.now }
-{
-    if inner.len() as u64 != chosen.below(chosen.count) {
-        return false;
-    }
-    if outer.len() as u64 != cover_count(chosen) {
-        return false;
-    }
-    let found = join(chosen, inner, outer);
-    found == *root
-}
-
-/// How many segments cover all places that are not chosen.
-fn cover_count(chosen: &Chosen<'_>) -> u64
-    ensures { result ≡ length (cover (others (is_chosen chosen.now.old chosen.now.touched.now)) chosen.now.count) }
-{
-    if chosen.count == 0 {
-        return 0;
-    }
-    cover_len(chosen, HEIGHT, 0)
+    Ok(Some(join(&chosen, count, &row, nodes)))
 }

@@ -3,21 +3,19 @@ ghost use Rattle.std.specs.Prelude.{◌≡◌, ◌≤◌, IfOk, IsTrue, if◌the
 ghost use Rattle.std.specs.List.{range_with_len, list_all, filter};
 ghost use Rattle.sia_merkle.specs.Segments.{places_between};
 ghost use Rattle.sia_diff.specs.Marks.{AreCounted, AreCounts, HasCounts, is_counted, is_counted_once};
-ghost use Rattle.sia_diff.specs.Steps.{is_fit, step_fits, step_touches, touched_places, turns};
+ghost use Rattle.sia_diff.specs.DiffSteps.{is_fit, step_fits, step_touches, touched_places, counted_steps};
 
-use crate::steps::{DiffStep, MAX_COUNT};
+use crate::steps::DiffStep;
 use sia_encoding::List;
+use sia_encoding::limits::{CONTRACT_SECTORS, TOUCHED_PLACES};
 use std::alloc::{AllocError, Global};
-
-/// How many old places may be touched.
-const MAX_TOUCHED: usize = 1024;
 
 /// The places of a list of `n` hashes that the steps name or remove, in ascending order. `None` where the steps aren't fit
 /// for so many hashes. Its error is want of memory.
 pub fn touched(alloc: Global, n: u64, steps: &[DiffStep]) -> Result<Option<List<u64>>, AllocError>
     ensures { IfOk result (λ places. places ≡ (if is_fit n steps.now then Some (touched_places n steps.now) else None)) }
 {
-    if n > MAX_COUNT || !each_fits(n, steps) {
+    if n > CONTRACT_SECTORS || !each_fits(n, steps) {
         return Ok(None);
     }
     let counts = touch_counts(alloc, n, steps)?;
@@ -25,7 +23,7 @@ pub fn touched(alloc: Global, n: u64, steps: &[DiffStep]) -> Result<Option<List<
         return Ok(None);
     }
     let places = places_counted(alloc, counts.as_slice())?;
-    if places.len() > MAX_TOUCHED {
+    if places.len() as u64 > TOUCHED_PLACES {
         return Ok(None);
     }
     Ok(Some(places))
@@ -44,10 +42,10 @@ pub(crate) fn touched_by_fit(
     places_counted(alloc, counts.as_slice())
 }
 
-/// Whether each step can be done at its turn.
+/// Whether each step can be done when it comes.
 fn each_fits(n: u64, steps: &[DiffStep]) -> bool
-    requires { n ≤ 65536 }
-    ensures { result ≡ list_all (λ turn. step_fits turn.count turn.step) (turns n steps.now) }
+    requires { n ≤ CONTRACT_SECTORS }
+    ensures { result ≡ list_all (λ counted. step_fits counted.count counted.step) (counted_steps n steps.now) }
 {
     let mut count = n;
     for step in steps {
@@ -61,8 +59,8 @@ fn each_fits(n: u64, steps: &[DiffStep]) -> bool
 
 /// How often each place is touched, up to two.
 fn touch_counts(alloc: Global, n: u64, steps: &[DiffStep]) -> Result<List<u8>, AllocError>
-    requires count { n ≤ 65536 }
-    requires fits { IsTrue (list_all (λ turn. step_fits turn.count turn.step) (turns n steps.now)) }
+    requires count { n ≤ CONTRACT_SECTORS }
+    requires fits { IsTrue (list_all (λ counted. step_fits counted.count counted.step) (counted_steps n steps.now)) }
     ensures { IfOk result (λ counts. HasCounts counts n steps.now) }
 {
     let mut counts = vec![in alloc; 0u8; n as usize]?;
@@ -73,8 +71,8 @@ fn touch_counts(alloc: Global, n: u64, steps: &[DiffStep]) -> Result<List<u8>, A
 /// Counts for each place, from 0, how many steps touch it, up to two.
 fn count_steps(counts: &mut [u8], steps: &[DiffStep])
     requires none { counts.old ≡ replicate (length counts.old) 0 }
-    requires count { length counts.old ≤ 65536 }
-    requires fits { IsTrue (list_all (λ turn. step_fits turn.count turn.step) (turns (length counts.old) steps.now)) }
+    requires count { length counts.old ≤ CONTRACT_SECTORS }
+    requires fits { IsTrue (list_all (λ counted. step_fits counted.count counted.step) (counted_steps (length counts.old) steps.now)) }
     ensures { HasCounts counts.new (length counts.old) steps.now }
 {
     let mut count = counts.len() as u64;

@@ -1,16 +1,13 @@
 //! Makes the proof of a diff: the old hashes at the touched places, and the roots of the subtrees that cover all others.
 ghost use Rattle.std.specs.Prelude.{◌≡◌, ◌<◌, [], ℕ, IfOk, IsTrue, length, map, slice_index, slice_index_or};
-ghost use Rattle.sia_merkle.specs.Segments.{cover, others, segment_roots};
-ghost use Rattle.sia_diff.specs.Chosen.{is_chosen};
 ghost use Rattle.sia_diff.specs.Diffs.{own_leaves, own_nodes};
-ghost use Rattle.sia_diff.specs.Steps.{is_fit};
+ghost use Rattle.sia_diff.specs.DiffSteps.{is_fit};
 
 use crate::chosen::Chosen;
-use crate::cover::append_cover;
-use crate::join::HEIGHT;
 use crate::places::touched_by_fit;
 use crate::steps::DiffStep;
 use sia_blake::Hash;
+use sia_cover::{Others, cover_roots};
 use sia_encoding::List;
 use sia_merkle::Nodes;
 use sia_types::DiffProof;
@@ -32,11 +29,10 @@ pub fn prove_diff<N: Nodes>(
     let touched = touched_by_fit(alloc, n, steps)?;
     let leaves = hashes_of(alloc, nodes, touched.as_slice())?;
     let chosen = Chosen {
-        count: n,
         old: n,
         touched: touched.as_slice(),
     };
-    let roots = cover_roots(alloc, nodes, &chosen)?;
+    let roots = cover_roots(alloc, nodes, &Others(&chosen))?;
     Ok(DiffProof {
         leaves,
         nodes: roots,
@@ -54,20 +50,4 @@ fn hashes_of<N: Nodes>(alloc: Global, nodes: &N, places: &[u64]) -> Result<List<
         hashes.push(hash)?;
     }
     Ok(hashes)
-}
-
-/// The roots of the cover of the places that are not chosen.
-fn cover_roots<N: Nodes>(
-    alloc: Global,
-    nodes: &N,
-    chosen: &Chosen<'_>,
-) -> Result<List<Hash>, AllocError>
-    requires { chosen.now.count ≡ length (N.hashes nodes.now) }
-    ensures { IfOk result (λ roots. roots ≡ segment_roots (N.hashes nodes.now) (cover (others (is_chosen chosen.now.old chosen.now.touched.now)) chosen.now.count)) }
-{
-    let mut roots = List::new(alloc);
-    if chosen.count > 0 {
-        append_cover(&mut roots, nodes, chosen, HEIGHT, 0)?;
-    }
-    Ok(roots)
 }

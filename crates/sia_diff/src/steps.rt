@@ -2,9 +2,7 @@
 ghost use Rattle.std.specs.Prelude.{◌≡◌, ◌≤◌, IsTrue};
 
 use sia_blake::Hash;
-
-/// How many hashes a list may have.
-pub(crate) const MAX_COUNT: u64 = 65_536;
+use sia_encoding::limits::CONTRACT_SECTORS;
 
 /// A step on a list of hashes. The steps of a diff are done in order, and places count from 0.
 #[derive(Clone, Copy)]
@@ -20,14 +18,14 @@ pub enum DiffStep {
 }
 
 impl DiffStep {
-    ghost use Rattle.sia_diff.specs.Steps.{count_after_step, step_fits};
+    ghost use Rattle.sia_diff.specs.DiffSteps.{count_after_step, step_fits};
 
     /// Whether the step can be done on a list of so many hashes.
     pub(crate) fn fits(&self, count: u64) -> bool
         ensures { result ≡ step_fits count self.now }
     {
         match self {
-            DiffStep::Append(_) => count < MAX_COUNT,
+            DiffStep::Append(_) => count < CONTRACT_SECTORS,
             DiffStep::Trim(fewer) => *fewer <= count,
             DiffStep::Swap(i, j) => *i < count && *j < count,
             DiffStep::Set(i, _) => *i < count,
@@ -36,10 +34,10 @@ impl DiffStep {
 
     /// How many hashes there are after the step.
     pub(crate) fn count_after(&self, count: u64) -> u64
-        requires count { count ≤ 65536 }
+        requires count { count ≤ CONTRACT_SECTORS }
         requires fits { IsTrue (step_fits count self.now) }
         ensures count { result ≡ count_after_step count self.now }
-        ensures bound { result ≤ 65536 }
+        ensures bound { result ≤ CONTRACT_SECTORS }
     {
         match self {
             DiffStep::Append(_) => count + 1,

@@ -2,14 +2,14 @@
 use Rattle.std.proofs.Common.{◌≡◌, ◌⊎◌, ◌++◌, ℕ, ◌+◌, ◌≤◌, List, [], ◌∷◌, length, arith, sym, refl, subst, inl, inr}
 use Rattle.std.proofs.lemmas.Bool.{cases_lt}
 use Rattle.std.proofs.lemmas.List.{take_all, take-append-le, length-append}
-use Rattle.sia_edge.specs.declared.mem_disk.Event.{Event}
-use Rattle.sia_edge.specs.declared.mem_disk.Event.TheVariants as event
+use Rattle.sia_edge.specs.Event.{Event}
+use Rattle.sia_edge.specs.Event as event
 use Rattle.sia_edge.specs.declared.fault_plan.FaultPlan.{FaultPlan}
 use Rattle.sia_edge.specs.declared.disk.Did.{Did}
 use Rattle.sia_edge.specs.declared.disk.Did.TheVariants as did
-use Rattle.sia_edge.specs.Disk.{Passes, Follows, NoneMore, Only, Torn, Shortened}
+use Rattle.sia_edge.specs.Disk.{TimePasses, Changes, Quiet, Only, Torn, Shortened, images_of}
 use Rattle.sia_edge.proofs.Tears.{torn_none, torn_all, shortened_none, shortened_all}
-use Rattle.sia_edge.specs.MemDisk.{DiskState, After, Images, ImagesOf, Had, since_of, moment_of, ReadIsImage, OverwritesOrKeeps, CutsOrKeeps}
+use Rattle.sia_edge.specs.MemDisk.{DiskState, After, Images, ImagesOf, Had, standing_of, ReadIsImage, OverwritesOrKeeps, CutsOrKeeps}
 
 abbrev pub state : List ℕ → List ℕ → List Event → FaultPlan → DiskState
 state bytes start events plan = record { bytes = bytes; start = start; events = events; plan = plan }
@@ -60,9 +60,10 @@ had_now start events e t c le image =
           (images_less events (λ d. d ≡ start) e c image),
     )
 
-module _ (old new : DiskState) (e : Event) (start : new.start ≡ old.start) (grown : new.events ≡ old.events ++ e ∷ []) where
+module _ (old new : DiskState) (e : Event) (start : new.start ≡ old.start) (grown : new.events ≡ old.events ++ e ∷ [])
+    (counted : old.plan.faults ≤ new.plan.faults) where
   -- the clock goes on by one event
-  pub logged_passes : ReadIsImage old.start old.events old.bytes → Passes (moment_of old) (moment_of new) (since_of old) (since_of new)
+  pub logged_passes : ReadIsImage old.start old.events old.bytes → TimePasses (standing_of old) (standing_of new)
   logged_passes kept = rw (start, grown) (record {
     later = omega (arith, length-append old.events (e ∷ []));
     none_else = λ t c le left. elim left [
@@ -78,52 +79,63 @@ module _ (old new : DiskState) (e : Event) (start : new.start ≡ old.start) (gr
           inl (had_before old.start old.events e t c
           (had_all old.start old.events t c now.0 (subst (λ d. ImagesOf old.start old.events d) (sym now.1) kept)))
     ];
+    counted = counted;
   })
 
   -- each image since is an old one after a step that may also do nothing
-  pub logged_follows : (step : List ℕ → List ℕ → Type 0) → ((c : List ℕ) → step c c) → step old.bytes new.bytes
+  pub logged_changes : ReadIsImage old.start old.events old.bytes → (step : List ℕ → List ℕ → Type 0) → ((c : List ℕ) → step c c) → step old.bytes new.bytes
       → ((c : List ℕ) → After e (ImagesOf old.start old.events) c → (d : List ℕ) × ImagesOf old.start old.events d × step d c)
-      → Follows step (since_of old (moment_of old)) (since_of new (moment_of old))
-  logged_follows step none all done = rw (start, grown) (λ c left. elim left [
-    | inl had ↦ elim (had_after old.start old.events e (length old.events) c had) [
-      | inl before ↦ (c, inl before, none c)
-      | inr after ↦ let from = done c after in (from.0, inl (had_all old.start old.events (length old.events) from.0 (omega arith) from.1), from.2)
+      → Changes step (standing_of old) (standing_of new)
+  logged_changes kept step none all done = record {
+    time = logged_passes kept;
+    images = rw (start, grown) (λ c left. elim left [
+      | inl had ↦ elim (had_after old.start old.events e (length old.events) c had) [
+        | inl before ↦ (c, inl before, none c)
+        | inr after ↦ let from = done c after in (from.0, inl (had_all old.start old.events (length old.events) from.0 (omega arith) from.1), from.2)
+      ]
+      | inr now ↦ (old.bytes, inr (omega arith, refl), subst (λ bytes. step old.bytes bytes) (sym now.1) all)
+    ]);
+  }
+
+module _ (old new : DiskState) (start : new.start ≡ old.start) (same : new.events ≡ old.events) (bytes : new.bytes ≡ old.bytes)
+    (counted : old.plan.faults ≤ new.plan.faults) where
+  -- a call that did nothing
+  pub idle_passes : TimePasses (standing_of old) (standing_of new)
+  idle_passes = rw (start, same, bytes) (record { later = omega arith; none_else = λ t c le left. inl left; keeps = λ t c le left. left; counted = counted })
+
+  pub idle_quiet : Quiet (standing_of old) (standing_of new)
+  idle_quiet = record { same = bytes; leaves = record { time = idle_passes; images = rw (start, same, bytes) (λ c left. left) } }
+
+  pub idle_changes : (step : List ℕ → List ℕ → Type 0) → ((c : List ℕ) → step c c) → Changes step (standing_of old) (standing_of new)
+  idle_changes step none = record { time = idle_passes; images = rw (start, same, bytes) (λ c left. (c, left, none c)) }
+
+module _ (old new : DiskState) (start : new.start ≡ old.start) (grown : new.events ≡ old.events ++ event.Synced old.bytes ∷ [])
+    (bytes : new.bytes ≡ old.bytes) (counted : old.plan.faults ≤ new.plan.faults) where
+  -- after a sync the only image is what it synced
+  pub synced_only : Only new.bytes (images_of (standing_of new))
+  synced_only = rw (start, grown, bytes) (λ c left. elim left [
+    | inl had ↦ elim (had_after old.start old.events (event.Synced old.bytes) _ c had) [
+      | inl before ↦ (let no : ⊥ = omega (arith, before.1, before.2, length-append old.events (event.Synced old.bytes ∷ [])) in absurd no)
+      | inr after ↦ after
     ]
-    | inr now ↦ (old.bytes, inr (omega arith, refl), subst (λ bytes. step old.bytes bytes) (sym now.1) all)
+    | inr now ↦ now.1
   ])
 
-module _ (old new : DiskState) (start : new.start ≡ old.start) (same : new.events ≡ old.events) (bytes : new.bytes ≡ old.bytes) where
-  -- a call that did nothing
-  pub idle_passes : Passes (moment_of old) (moment_of new) (since_of old) (since_of new)
-  idle_passes = rw (start, same, bytes) (record { later = omega arith; none_else = λ t c le left. inl left; keeps = λ t c le left. left })
-
-  pub idle_images : NoneMore (since_of old (moment_of old)) (since_of new (moment_of old))
-  idle_images = rw (start, same, bytes) (λ c left. left)
-
-  pub idle_follows : (step : List ℕ → List ℕ → Type 0) → ((c : List ℕ) → step c c) → Follows step (since_of old (moment_of old)) (since_of new (moment_of old))
-  idle_follows step none = rw (start, same, bytes) (λ c left. (c, left, none c))
-
--- after a sync the only image is what it synced
-pub synced_only : (old new : DiskState) → new.start ≡ old.start → new.events ≡ old.events ++ event.Synced old.bytes ∷ []
-    → new.bytes ≡ old.bytes → Only new.bytes (since_of new (moment_of new))
-synced_only old new start grown bytes = rw (start, grown, bytes) (λ c left. elim left [
-  | inl had ↦ elim (had_after old.start old.events (event.Synced old.bytes) _ c had) [
-    | inl before ↦ (let no : ⊥ = omega (arith, before.1, before.2, length-append old.events (event.Synced old.bytes ∷ [])) in absurd no)
-    | inr after ↦ after
-  ]
-  | inr now ↦ now.1
-])
-
--- a sync adds no image
-pub synced_images : (old new : DiskState) → new.start ≡ old.start → new.events ≡ old.events ++ event.Synced old.bytes ∷ []
-    → new.bytes ≡ old.bytes → NoneMore (since_of old (moment_of old)) (since_of new (moment_of old))
-synced_images old new start grown bytes = rw (start, grown, bytes) (λ c left. elim left [
-  | inl had ↦ elim (had_after old.start old.events (event.Synced old.bytes) (length old.events) c had) [
-    | inl before ↦ inl before
-    | inr after ↦ inr (omega arith, after)
-  ]
-  | inr now ↦ inr (omega arith, now.1)
-])
+  -- a sync adds no image
+  pub synced_quiet : ReadIsImage old.start old.events old.bytes → Quiet (standing_of old) (standing_of new)
+  synced_quiet kept = record {
+    same = bytes;
+    leaves = record {
+      time = logged_passes old new (event.Synced old.bytes) start grown counted kept;
+      images = rw (start, grown, bytes) (λ c left. elim left [
+        | inl had ↦ elim (had_after old.start old.events (event.Synced old.bytes) (length old.events) c had) [
+          | inl before ↦ inl before
+          | inr after ↦ inr (omega arith, after)
+        ]
+        | inr now ↦ inr (omega arith, now.1)
+      ]);
+    };
+  }
 
 -- the images of one more event hold what it made of an image before
 pub still_image : (start : List ℕ) (events : List Event) (e : Event) (c : List ℕ)

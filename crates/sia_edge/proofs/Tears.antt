@@ -1,7 +1,7 @@
 -- Nothing done and all done are among what a crash leaves of a write or a cut.
 use Rattle.std.proofs.Common.{◌≡◌, ◌++◌, ℕ, ◌+◌, ◌≤◌, min, max, List, length, take, drop, arith, sym, ◌∙◌, refl, inl, inr}
 use Rattle.std.proofs.lemmas.Bool.{cases_lt}
-use Rattle.std.proofs.lemmas.List.{take_at, drop_at, take_all, length-take, length-drop, length-append, append_assoc}
+use Rattle.std.proofs.lemmas.List.{take-take, take_at, drop_at, take_all, length-take, length-drop, length-append, append_assoc}
 use Rattle.sia_edge.specs.Disk.{Torn, Shortened, overwritten}
 
 pub take_least : (n : ℕ) (xs : List ℕ) → take (min n (length xs)) xs ≡ take n xs
@@ -36,8 +36,12 @@ torn_all at bytes old inside =
       no_longer = omega (arith, length-overwritten old bytes at inside);
     }
 
-pub shortened_none : (n : ℕ) (c : List ℕ) → Shortened n c c
-shortened_none n c = record { no_shorter = omega arith; front = sym (take_all (length c) c (omega arith)) }
+pub shortened_none : (n : ℕ) (image : List ℕ) → Shortened n image image
+shortened_none n image = record { no_shorter = omega arith; no_longer = omega arith; front = take_least n image }
 
 pub shortened_all : (n : ℕ) (old : List ℕ) → Shortened n old (take n old)
-shortened_all n old = record { no_shorter = omega (arith, length-take n old); front = sym (rw (length-take n old) (take_least n old)) }
+shortened_all n old = record {
+  no_shorter = omega (arith, length-take n old);
+  no_longer = omega (arith, length-take n old);
+  front = take-take (min n (length old)) n old (omega arith) ∙ take_least n old;
+}

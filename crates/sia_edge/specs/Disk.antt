@@ -1,7 +1,7 @@
 -- A disk: what a read gives, and what a crash may leave. A crash leaves an image, the bytes that stand on the disk after
--- it. Between two syncs each written range, and what lies past the old end up to the end of a write, may hold any bytes
--- in an image, and the end may lie anywhere between the least and the greatest that was in force. Other bytes stay.
--- After a sync that was done the only image is what a read gives.
+-- it. Between two syncs each written range, what lies past the old end up to the end of a write, and what lies behind a
+-- cut, may hold any bytes in an image, and the end may lie anywhere between the least and the greatest that was in force.
+-- Other bytes stay. After a sync that was done the only image is what a read gives.
 use Rattle.std.specs.Prelude.{◌≡◌, ◌⊎◌, ◌++◌, ℕ, ◌+◌, ◌<◌, ◌≤◌, min, max, List, length, take, drop}
 use Rattle.sia_edge.specs.Edge.{Rose}
 use Rattle.sia_edge.specs.declared.traits.Got.{Got}
@@ -17,10 +17,12 @@ pub record Torn (at n : ℕ) (old new : List ℕ) : Type 0 where
   pub no_shorter : length old ≤ length new
   pub no_longer : length new ≤ max (length old) (at + n)
 
--- A cut to n bytes that a crash cuts short: the end lies between, and nothing else changes.
+-- A cut to n bytes that a crash cuts short: the end lies between, the first n bytes stay, and behind them may stand any
+-- bytes, since the file system may have freed their blocks already.
 pub record Shortened (n : ℕ) (old new : List ℕ) : Type 0 where
   pub no_shorter : min n (length old) ≤ length new
-  pub front : new ≡ take (length new) old
+  pub no_longer : length new ≤ length old
+  pub front : take (min n (length old)) new ≡ take n old
 
 -- bytes with others at a place, which may reach past the end
 abbrev pub overwritten : List ℕ → ℕ → List ℕ → List ℕ
@@ -55,47 +57,67 @@ Cuts did.Failed n old new = Shortened n old new
 
 -- these bytes are the only image
 abbrev pub Only : List ℕ → (List ℕ → Type 0) → Type 0
-Only bytes images = (c : List ℕ) → images c → c ≡ bytes
+Only bytes images = (image : List ℕ) → images image → image ≡ bytes
+
+-- How a disk stands: what a read gives, how far its clock has come, the images that a crash at a moment or later may have
+-- left, and how often a call has failed. What may have been left since a moment may have been left since an earlier one.
+pub record Standing : Type 1 where
+  pub seen : List ℕ
+  pub moment : ℕ
+  pub since : ℕ → List ℕ → Type 0
+  pub faults : ℕ
+  pub earlier : (t u : ℕ) (image : List ℕ) → t ≤ u → u ≤ moment → since u image → since t image
+
+-- the images that a crash may leave now
+abbrev pub images_of : Standing → List ℕ → Type 0
+images_of disk = disk.since disk.moment
+
+-- the images that a crash may have left since the disk stood as it did before
+abbrev pub images_since : Standing → Standing → List ℕ → Type 0
+images_since old new = new.since old.moment
+
+-- each image that a crash may leave now has P
+abbrev pub EachImage : (List ℕ → Type 0) → Standing → Type 0
+EachImage P disk = (image : List ℕ) → images_of disk image → P image
+
+-- nothing is pending: a crash leaves what a read gives
+abbrev pub IsSettled : Standing → Type 0
+IsSettled disk = Only disk.seen (images_of disk)
 
 -- a sync that was done leaves one image
-abbrev pub Settles : Did → List ℕ → (List ℕ → Type 0) → Type 0
-Settles did.Done bytes images = Only bytes images
-Settles did.Failed bytes images = Unit {0}
+abbrev pub Settles : Did → Standing → Type 0
+Settles did.Done disk = IsSettled disk
+Settles did.Failed disk = Unit {0}
 
--- each new image is an old one after a step
-abbrev pub Follows : (List ℕ → List ℕ → Type 0) → (List ℕ → Type 0) → (List ℕ → Type 0) → Type 0
-Follows step old new = (c : List ℕ) → new c → (d : List ℕ) × old d × step d c
+-- The count of faults rose.
+abbrev pub Faulted : Standing → Standing → Type 0
+Faulted old new = Rose old.faults new.faults
 
--- each new image is an old one
-abbrev pub NoneMore : (List ℕ → Type 0) → (List ℕ → Type 0) → Type 0
-NoneMore old new = (c : List ℕ) → new c → old c
+-- Time passes over a disk in a call: what a crash may have left since an earlier moment is what it may have left until the
+-- call, and what it may have left since the call began. The count of faults doesn't fall.
+pub record TimePasses (old new : Standing) : Type 0 where
+  pub later : old.moment ≤ new.moment
+  pub none_else : (t : ℕ) (image : List ℕ) → t ≤ old.moment → new.since t image → old.since t image ⊎ images_since old new image
+  pub keeps : (t : ℕ) (image : List ℕ) → t ≤ old.moment → old.since t image → new.since t image
+  pub counted : old.faults ≤ new.faults
 
--- A call that begins at the moment `before`: what a crash may have left since an earlier moment is what it may have left
--- until the call, and what it may have left since the call began.
-pub record Passes (before now : ℕ) (old new : ℕ → List ℕ → Type 0) : Type 0 where
-  pub later : before ≤ now
-  pub none_else : (t : ℕ) (c : List ℕ) → t ≤ before → new t c → old t c ⊎ new before c
-  pub keeps : (t : ℕ) (c : List ℕ) → t ≤ before → old t c → new t c
+-- What a call, or a run of calls, leaves: time passes, and each image since it began has P.
+pub record Leaves (P : List ℕ → Type 0) (old new : Standing) : Type 0 where
+  pub time : TimePasses old new
+  pub images : (image : List ℕ) → images_since old new image → P image
+
+-- an image after a change
+abbrev pub Changed : (List ℕ → List ℕ → Type 0) → (List ℕ → Type 0) → List ℕ → Type 0
+Changed step images new = (old : List ℕ) × images old × step old new
+
+-- a call makes a change: each image since it began is one from before with the change
+abbrev pub Changes : (List ℕ → List ℕ → Type 0) → Standing → Standing → Type 0
+Changes step old new = Leaves (Changed step (images_of old)) old new
 
 -- a call that changes nothing: a read gives the same, and there is no image that wasn't there before
-pub record Quiet {D : Type 0} (seen : D → List ℕ) (moment : D → ℕ) (since : D → ℕ → List ℕ → Type 0) (old new : D) : Type 0 where
-  pub same : seen new ≡ seen old
-  pub images : NoneMore (since old (moment old)) (since new (moment old))
-  pub time : Passes (moment old) (moment new) (since old) (since new)
-
--- The count doesn't fall, and where the call failed it rose.
-pub record DidCause (before now : ℕ) (result : Did) : Type 0 where
-  pub later : before ≤ now
-  pub failed : result ≡ did.Failed → Rose before now
-
--- What a run of calls leaves: the clock went on, and each image since it began has P.
-pub record Run {D : Type 0} (moment : D → ℕ) (since : D → ℕ → List ℕ → Type 0) (old new : D) (P : List ℕ → Type 0) : Type 0 where
-  pub passes : Passes (moment old) (moment new) (since old) (since new)
-  pub leaves : (c : List ℕ) → since new (moment old) c → P c
-
--- what a crash may have left since a moment, it may have left since an earlier one
-abbrev pub Earlier : ℕ → (ℕ → List ℕ → Type 0) → Type 0
-Earlier now since = (t u : ℕ) (c : List ℕ) → t ≤ u → u ≤ now → since u c → since t c
+pub record Quiet (old new : Standing) : Type 0 where
+  pub same : new.seen ≡ old.seen
+  pub leaves : Leaves (images_of old) old new
 
 -- a read that was done filled the buffer with the bytes at the place
 abbrev pub Fills : Did → List ℕ → ℕ → List ℕ → Type 0

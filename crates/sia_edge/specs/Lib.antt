@@ -2,6 +2,9 @@ pub mod Edge
 pub mod Memory
 pub mod Whole
 pub mod Disk
+pub mod Event
+pub mod EventLog
 pub mod MemDisk
+pub mod OpenedFile
 pub mod FileDisk
-pub mod Empty
+pub mod Filled

@@ -3,6 +3,7 @@ ghost use Rattle.std.specs.Prelude.{◌≡◌, ◌≤◌, IsTrue};
 ghost use Rattle.sia_edge.specs.Edge.{Rose};
 ghost use Rattle.sia_edge.specs.Memory.{fresh_plan, fails_next, after_call, after_fault};
 
+use crate::fault_count::FaultCount;
 use sia_encoding::List;
 
 /// The numbers of the calls that fail, counted from 0, and how many calls and faults there were so far.
@@ -10,7 +11,7 @@ use sia_encoding::List;
 pub struct FaultPlan {
     fails: List<u64>,
     calls: u64,
-    faults: u64,
+    faults: FaultCount,
 }
 
 impl FaultPlan {
@@ -21,7 +22,7 @@ impl FaultPlan {
         FaultPlan {
             fails,
             calls: 0,
-            faults: 0,
+            faults: FaultCount::none(),
         }
     }
 
@@ -35,7 +36,7 @@ impl FaultPlan {
         let fails = self.fails.as_slice().contains(&self.calls);
         self.calls = self.calls.saturating_add(1);
         if fails {
-            self.faults = self.faults.saturating_add(1);
+            self.faults.add();
         }
         fails
     }
@@ -46,6 +47,6 @@ impl FaultPlan {
         ensures later { self.old.faults ≤ self.new.faults }
         ensures rose { Rose self.old.faults self.new.faults }
     {
-        self.faults = self.faults.saturating_add(1);
+        self.faults.add();
     }
 }

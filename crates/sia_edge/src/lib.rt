@@ -1,29 +1,61 @@
 //! The outside: where bytes come from, where they go, and the disks that keep them.
 //!
-//! Each trait has a count of faults that never falls: a call answers `Failed` only where the count rose in it. A count that
-//! stands at the greatest `u64` is taken as one that rose.
+//! The model of a disk is that of POSIX's pwrite, ftruncate and fsync on one file, read so that a crash may leave as much
+//! as any file system leaves (specs/Disk.antt). The rest is POSIX's read, write, pread, fstat, flock and
+//! posix_fadvise, as std and libc have them.
 //!
-//! - `Source` and `Sink`: contracts see the bytes that a source has left and those that a sink took, where the implementation
-//!   tells them. `read_to_bound` and `write_all` are the loops over them.
-//! - `Disk`: contracts see its length, what a read gives where it is told, and the images that a crash may leave, now and
-//!   since each earlier moment (specs/Disk.antt has the model). `read_whole`, `read_into` and `read_onto` read a range of
-//!   it.
-//! - The objects in memory (`MemSource`, `SureSource`, `MemSink`, `MemDisk`) tell their bytes, and say by number which of
-//!   their calls fail.
-//! - The adapters over the system (`FileSource`, `FileSink`, `StdSink`, `FileDisk`) tell none, since no contract can say what a
-//!   file or a terminal holds. Each but `StdSink` can be empty, for a file that didn't open: then each call fails and counts.
+//! ```
+//! let mut disk = FileDisk::open(rt, b"journal");
+//! disk.write_at(disk.length(), &record);
+//! disk.sync();
+//! ```
 //!
-//! A crate above carries what its runs of disk calls leave by the lemmas of proofs/Runs.antt. The crate stands on
-//! `sia_encoding` for `Blob` and `List`.
+//! # Promises
+//!
+//! - A call of a [`Source`], a [`Sink`] or a [`Disk`] fails only where its count of faults rose in it. The count never falls; one
+//!   that stands at the greatest `u64` is taken as one that rose.
+//! - Where the bytes are told, a [`Source`] gives the bytes left in order, and says that it is at its end only there; a [`Sink`]
+//!   appends what it takes, and a failed write appends nothing. [`read_to_bound`] appends all that is left or says exactly that
+//!   there is more than the bound, [`fill_from`] fills a buffer but where no more is left, and [`write_all`] writes the whole
+//!   piece or a front part of it.
+//! - After each call of a [`Disk`] the images that a crash may leave are among those of the model; after a sync that was done
+//!   there is one. The length is told always. [`read_whole`], [`read_into`] and [`read_onto`] give the bytes of a range, and
+//!   [`read_onto`] takes no memory where there is room.
+//! - Which calls of a [`MemSource`], a [`MemSink`] or a [`MemDisk`] fail is exactly what was asked, but for want of memory in a
+//!   write. A [`MemDisk`] tells every image that the model allows, and at run time keeps its bytes alone.
+//! - [`FileDisk`] is proved over any [`OpenedFile`] that tells its bytes: a write that is done put all its bytes at the place, a cut
+//!   that is done cut there, a sync that is done synced what the file holds, and a read gives what it holds. A write, a cut and
+//!   a sync are done only where the file has the disk's own length.
+//! - After a call of a [`FileDisk`] has failed there is no file, the length stays, and each later call fails and counts, until
+//!   [`FileDisk::open`] is called again. [`FileDisk::empty`] is such a disk from the start.
+//! - A [`FileSource`], a [`FileSink`] or a [`FileDisk`] without a file fails and counts in each call, [`FileSink::finish`] too.
+//! - A [`SigCheck`] has one verdict of key, hash and signature, the same for every value of its type. A [`Signer`] has one key, and
+//!   signs as its type's relation of key, hash and signature allows; its one error is want of memory.
+//!
+//! What no clause can say is tested over real files: what the system does at [`FileDisk::open`] (it locks the file without
+//! waiting, syncs it and its folder, and drops the pages that the system keeps of it, on no descriptor of a standard stream),
+//! and that the file of a [`FileSink`] keeps what it held until the first write or [`FileSink::finish`], which syncs it.
+//! A crate above carries what its runs of disk calls leave by the lemmas of proofs/Runs.antt.
+//!
+//! # Stands on
+//!
+//! `sia_encoding` for byte strings and lists, and the kit's `libc` for posix_fadvise.
 #![tactic(auto)]
 
 mod all;
+mod attempts;
 mod disk;
+mod event_log;
+mod fault_count;
 mod fault_plan;
 mod file_disk;
+mod fill;
 mod mem_disk;
 mod memory;
+mod opened_file;
+mod opening;
 mod read_disk;
+mod signing;
 mod system;
 mod traits;
 
@@ -31,13 +63,11 @@ pub use all::{Ending, WriteFailed, read_to_bound, write_all};
 pub use disk::{Did, Disk};
 pub use fault_plan::FaultPlan;
 pub use file_disk::{Disks, FileDisk};
-pub use mem_disk::{Event, MemDisk};
+pub use fill::{ReadFailed, fill_from};
+pub use mem_disk::MemDisk;
 pub use memory::{MemSink, MemSource, SureSource};
+pub use opened_file::OpenedFile;
 pub use read_disk::{ReadFault, read_into, read_onto, read_whole};
+pub use signing::{SigCheck, Signer};
 pub use system::{FileSink, FileSource, StdSink};
 pub use traits::{Got, Put, Sink, Source};
-
-#[cfg(test)]
-mod disk_tests;
-#[cfg(test)]
-mod tests;

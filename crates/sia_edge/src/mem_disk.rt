@@ -1,61 +1,51 @@
 //! A disk in memory, which tells all images that a crash may leave.
 ghost use Rattle.std.specs.Prelude.{◌≡◌, ◌+◌, ◌<◌, ◌≤◌, ◌↔◌, ◌++◌, ◌∷◌, [], true, IsTrue, IfOk, OnOk, OnErr, length, take, drop, if◌then◌else◌};
-ghost use Rattle.sia_edge.specs.Edge.{GotCause};
-ghost use Rattle.sia_edge.specs.Disk.{GivesWithin, Gives, NoneMore, Passes, Lengthens, Overwrites, Follows, Torn, Cuts, Shortened, Settles, DidCause, overwritten};
+ghost use Rattle.sia_edge.specs.Edge.{Rose};
+ghost use Rattle.sia_edge.specs.Disk.{GivesWithin, Gives, Quiet, Faulted, Lengthens, Overwrites, Changes, Torn, Cuts, Shortened, Settles, overwritten};
 ghost use Rattle.sia_edge.specs.Memory.{fresh_plan, fails_next, after_call, given_of};
-ghost use Rattle.sia_edge.specs.MemDisk.{since_of, moment_of, plan_after, OverwritesOrKeeps, CutsOrKeeps, Keeps, KeepsSync};
+ghost use Rattle.sia_edge.specs.MemDisk.{standing_of, plan_after, OverwritesOrKeeps, CutsOrKeeps, KeepsSync};
+ghost use Rattle.sia_edge.specs.Event.{Wrote, Cut};
 
+use crate::event_log::EventLog;
 use crate::fault_plan::FaultPlan;
 use crate::memory::{copy_front, got_of};
 use crate::{Did, Disk, Got};
 use sia_encoding::{Blob, List};
-use std::alloc::{AllocError, Global};
+use std::alloc::AllocError;
 use std::marker::Model;
 
-/// What a disk was told to do.
-#[derive(Drop)]
-pub enum Event {
-    /// To write so many bytes (second) at a place (first).
-    Wrote(u64, u64),
-    /// To cut its end to so many bytes.
-    Cut(u64),
-    /// To sync, which it did, with these bytes.
-    Synced(Blob),
-}
-
-/// A disk in memory, with calls that fail by number. It keeps its writes, cuts and syncs as data.
+/// A disk in memory, with calls that fail by number. Clauses see its writes, cuts and syncs; at run time it keeps its bytes
+/// alone.
 #[derive(Drop)]
 pub struct MemDisk {
-    alloc: Global,
     bytes: Vec<u8>,
-    start: Blob,
-    events: List<Event>,
+    event_log: EventLog,
     plan: FaultPlan,
 }
 
 impl Model for MemDisk {
+    ghost use Rattle.sia_edge.specs.EventLog.{start_of, events_of};
     ghost use Rattle.sia_edge.specs.MemDisk.{DiskState, ReadIsImage};
 
     ghost Value = { DiskState };
 
-    ghost view = { λ disk. record { bytes = disk.bytes.items; start = disk.start; events = disk.events; plan = disk.plan } };
+    ghost view = { λ disk. record { bytes = disk.bytes.items; start = start_of disk.event_log; events = events_of disk.event_log; plan = disk.plan } };
 
-    ghost invariant = { λ disk. ReadIsImage disk.start disk.events disk.bytes.items };
+    ghost invariant = { λ disk. ReadIsImage (start_of disk.event_log) (events_of disk.event_log) disk.bytes.items };
 }
 
 impl MemDisk {
     /// A disk with these bytes, all of them settled. The calls with these numbers, counted from 0 over reads, writes, cuts
-    /// and syncs, will fail. Its error is want of memory.
-    pub fn new(alloc: Global, bytes: Blob, fails: List<u64>) -> Result<MemDisk, AllocError>
-        ensures { IfOk result (λ disk. disk ≡ record { bytes = bytes; start = bytes; events = []; plan = fresh_plan fails }) }
+    /// and syncs, will fail. It takes no memory.
+    pub fn new(bytes: Blob, fails: List<u64>) -> MemDisk
+        ensures { result ≡ record { bytes = bytes; start = bytes; events = []; plan = fresh_plan fails } }
     {
-        Ok(MemDisk {
-            alloc,
-            start: bytes.copy(alloc)?,
-            bytes: bytes.into_vec(),
-            events: List::new(alloc),
+        let bytes = bytes.into_vec();
+        MemDisk {
+            event_log: EventLog::new(&bytes),
+            bytes,
             plan: FaultPlan::new(fails),
-        })
+        }
     }
 
     /// What a read gives.
@@ -63,20 +53,6 @@ impl MemDisk {
         ensures { result.now ≡ self.now.bytes }
     {
         self.bytes.as_slice()
-    }
-
-    /// What it held when it was made.
-    pub fn start(&self) -> &[u8]
-        ensures { result.now ≡ self.now.start }
-    {
-        self.start.as_slice()
-    }
-
-    /// What it was told to do since, in order. A crash may leave each image that these events allow.
-    pub fn events(&self) -> &[Event]
-        ensures { result.now ≡ self.now.events }
-    {
-        self.events.as_slice()
     }
 }
 
@@ -96,13 +72,14 @@ fn overwrite(bytes: &mut Vec<u8>, at: usize, piece: &[u8]) -> Result<(), AllocEr
     Ok(())
 }
 
-/// The write that is told by the trait, after it was kept as an event.
+/// The write that is told by the trait, after it was noted.
 fn write_begun(bytes: &mut Vec<u8>, plan: &mut FaultPlan, at: usize, piece: &[u8]) -> Did
     requires { at ≤ length bytes.old.items }
     ensures bytes { OverwritesOrKeeps result at piece.now bytes.old.items bytes.new.items }
     ensures plan { plan.new ≡ plan_after plan.old result }
     ensures fails { IsTrue (fails_next plan.old) → result ≡ Did.Failed }
-    ensures cause { DidCause plan.old.faults plan.new.faults result }
+    ensures later { plan.old.faults ≤ plan.new.faults }
+    ensures cause { result ≡ Did.Failed → Rose plan.old.faults plan.new.faults }
 {
     if plan.count_call() {
         return Did::Failed;
@@ -116,12 +93,13 @@ fn write_begun(bytes: &mut Vec<u8>, plan: &mut FaultPlan, at: usize, piece: &[u8
     }
 }
 
-/// The cut that is told by the trait, after it was kept as an event.
+/// The cut that is told by the trait, after it was noted.
 fn cut_begun(bytes: &mut Vec<u8>, plan: &mut FaultPlan, len: usize) -> Did
     ensures bytes { CutsOrKeeps result len bytes.old.items bytes.new.items }
     ensures plan { plan.new ≡ plan_after plan.old result }
     ensures fails { result ≡ Did.Failed ↔ IsTrue (fails_next plan.old) }
-    ensures cause { DidCause plan.old.faults plan.new.faults result }
+    ensures later { plan.old.faults ≤ plan.new.faults }
+    ensures cause { result ≡ Did.Failed → Rose plan.old.faults plan.new.faults }
 {
     if plan.count_call() {
         return Did::Failed;
@@ -130,42 +108,14 @@ fn cut_begun(bytes: &mut Vec<u8>, plan: &mut FaultPlan, len: usize) -> Did
     Did::Done
 }
 
-/// A call that couldn't be kept as an event for want of memory: it counts, and fails.
-fn refused(plan: &mut FaultPlan) -> Did
-    ensures failed { result ≡ Did.Failed }
-    ensures plan { plan.new ≡ plan_after plan.old result }
-    ensures cause { DidCause plan.old.faults plan.new.faults result }
-{
-    if !plan.count_call() {
-        plan.count_fault();
-    }
-    Did::Failed
-}
-
-/// Keeps a sync and what it settled.
-fn note_sync(alloc: Global, events: &mut List<Event>, bytes: &Vec<u8>) -> Result<(), AllocError>
-    ensures ok { OnOk result (events.new ≡ events.old ++ Event.Synced bytes.now.items ∷ []) }
-    ensures err { OnErr result (events.new ≡ events.old) }
-{
-    events.push(Event::Synced(Blob::from_slice(alloc, bytes.as_slice())?))
-}
-
 impl Disk for MemDisk {
-    ghost use Rattle.sia_edge.specs.MemDisk.{read_is_image, since_earlier};
+    ghost use Rattle.sia_edge.specs.MemDisk.{read_is_image};
 
     ghost tells = { true };
 
-    ghost seen = { λ disk. disk.bytes };
-
-    ghost moment = { moment_of };
-
-    ghost since = { since_of };
-
-    ghost faults = { λ disk. disk.plan.faults };
+    ghost standing = { standing_of };
 
     ghost as_read = { λ disk told. read_is_image disk };
-
-    ghost earlier = { since_earlier };
 
     fn length(&self) -> u64 {
         self.bytes.len() as u64
@@ -177,10 +127,8 @@ impl Disk for MemDisk {
         requires inside { at ≤ length self.old.bytes }
         ensures bound { GivesWithin result (length buffer.new) at (length self.old.bytes) }
         ensures bytes { Gives result buffer.new at self.old.bytes }
-        ensures same { self.new.bytes ≡ self.old.bytes }
-        ensures images { NoneMore (since_of self.old (moment_of self.old)) (since_of self.new (moment_of self.old)) }
-        ensures time { Passes (moment_of self.old) (moment_of self.new) (since_of self.old) (since_of self.new) }
-        ensures cause { GotCause self.old.plan.faults self.new.plan.faults result }
+        ensures quiet { Quiet (standing_of self.old) (standing_of self.new) }
+        ensures cause { result ≡ Got.Failed → Faulted (standing_of self.old) (standing_of self.new) }
         ensures exact { result ≡ (if fails_next self.old.plan then Got.Failed else given_of (drop at self.old.bytes) (length buffer.old)) }
         ensures counted { self.new.plan ≡ after_call self.old.plan }
     {
@@ -192,65 +140,50 @@ impl Disk for MemDisk {
     }
 
     /// Fails where its number is one of those that fail, and else only for want of memory. What is read has the write whole
-    /// or not at all. It is kept as an event also where it fails by its number.
+    /// or not at all. It is noted also where it fails.
     fn write_at(&mut self, at: u64, bytes: &[u8]) -> Did
         requires { at ≤ length self.old.bytes }
         ensures end { Lengthens result (at + length bytes.now) (length self.old.bytes) (length self.new.bytes) }
         ensures bytes { Overwrites result at bytes.now self.old.bytes self.new.bytes }
-        ensures images { Follows (Torn at (length bytes.now)) (since_of self.old (moment_of self.old)) (since_of self.new (moment_of self.old)) }
-        ensures time { Passes (moment_of self.old) (moment_of self.new) (since_of self.old) (since_of self.new) }
-        ensures cause { DidCause self.old.plan.faults self.new.plan.faults result }
+        ensures changes { Changes (Torn at (length bytes.now)) (standing_of self.old) (standing_of self.new) }
+        ensures cause { result ≡ Did.Failed → Faulted (standing_of self.old) (standing_of self.new) }
         ensures whole { OverwritesOrKeeps result at bytes.now self.old.bytes self.new.bytes }
         ensures fails { IsTrue (fails_next self.old.plan) → result ≡ Did.Failed }
         ensures counted { self.new.plan ≡ plan_after self.old.plan result }
-        ensures kept { Keeps result (Event.Wrote at (length bytes.now)) self.old.events self.new.events }
+        ensures kept { self.new.events ≡ self.old.events ++ Wrote at (length bytes.now) ∷ [] }
     {
-        match self.events.push(Event::Wrote(at, bytes.len() as u64)) {
-            Ok(()) => write_begun(&mut self.bytes, &mut self.plan, at as usize, bytes),
-            Err(_) => refused(&mut self.plan),
-        }
+        self.event_log.note_write(at, bytes.len() as u64);
+        write_begun(&mut self.bytes, &mut self.plan, at as usize, bytes)
     }
 
-    /// Fails where its number is one of those that fail, and else only for want of memory. It is kept as an event also where
-    /// it fails by its number.
+    /// Fails exactly where its number is one of those that fail, and is noted then too.
     fn cut(&mut self, len: u64) -> Did
         requires { len ≤ length self.old.bytes }
         ensures bytes { Cuts result len self.old.bytes self.new.bytes }
-        ensures images { Follows (Shortened len) (since_of self.old (moment_of self.old)) (since_of self.new (moment_of self.old)) }
-        ensures time { Passes (moment_of self.old) (moment_of self.new) (since_of self.old) (since_of self.new) }
-        ensures cause { DidCause self.old.plan.faults self.new.plan.faults result }
+        ensures changes { Changes (Shortened len) (standing_of self.old) (standing_of self.new) }
+        ensures cause { result ≡ Did.Failed → Faulted (standing_of self.old) (standing_of self.new) }
         ensures whole { CutsOrKeeps result len self.old.bytes self.new.bytes }
-        ensures fails { IsTrue (fails_next self.old.plan) → result ≡ Did.Failed }
+        ensures fails { result ≡ Did.Failed ↔ IsTrue (fails_next self.old.plan) }
         ensures counted { self.new.plan ≡ plan_after self.old.plan result }
-        ensures kept { Keeps result (Event.Cut len) self.old.events self.new.events }
+        ensures kept { self.new.events ≡ self.old.events ++ Cut len ∷ [] }
     {
-        match self.events.push(Event::Cut(len)) {
-            Ok(()) => cut_begun(&mut self.bytes, &mut self.plan, len as usize),
-            Err(_) => refused(&mut self.plan),
-        }
+        self.event_log.note_cut(len);
+        cut_begun(&mut self.bytes, &mut self.plan, len as usize)
     }
 
-    /// Fails where its number is one of those that fail, and else only for want of memory. It is kept as an event where it
-    /// is done.
+    /// Fails exactly where its number is one of those that fail. It is noted where it is done.
     fn sync(&mut self) -> Did
-        ensures same { self.new.bytes ≡ self.old.bytes }
-        ensures settled { Settles result self.new.bytes (since_of self.new (moment_of self.new)) }
-        ensures images { NoneMore (since_of self.old (moment_of self.old)) (since_of self.new (moment_of self.old)) }
-        ensures time { Passes (moment_of self.old) (moment_of self.new) (since_of self.old) (since_of self.new) }
-        ensures cause { DidCause self.old.plan.faults self.new.plan.faults result }
-        ensures fails { IsTrue (fails_next self.old.plan) → result ≡ Did.Failed }
+        ensures settled { Settles result (standing_of self.new) }
+        ensures quiet { Quiet (standing_of self.old) (standing_of self.new) }
+        ensures cause { result ≡ Did.Failed → Faulted (standing_of self.old) (standing_of self.new) }
+        ensures fails { result ≡ Did.Failed ↔ IsTrue (fails_next self.old.plan) }
         ensures counted { self.new.plan ≡ plan_after self.old.plan result }
         ensures kept { KeepsSync result self.old.bytes self.old.events self.new.events }
     {
         if self.plan.count_call() {
             return Did::Failed;
         }
-        match note_sync(self.alloc, &mut self.events, &self.bytes) {
-            Ok(()) => Did::Done,
-            Err(_) => {
-                self.plan.count_fault();
-                Did::Failed
-            }
-        }
+        self.event_log.note_sync(&self.bytes);
+        Did::Done
     }
 }

@@ -1,8 +1,7 @@
 //! Reading a range of a disk whole.
 ghost use Rattle.std.specs.Prelude.{◌≡◌, ◌≢◌, ◌+◌, ◌≤◌, ◌<◌, ◌++◌, ℕ, Err, IsTrue, List, length, take, drop, slice_index, vec_len, vec_capacity, OnOk, OnErr, IfErr};
-ghost use Rattle.sia_edge.specs.Edge.{Rose};
 ghost use Rattle.sia_edge.specs.declared.read_disk.ReadFault.TheVariants.{Memory};
-ghost use Rattle.sia_edge.specs.Disk.{Quiet, DidCause, Fills};
+ghost use Rattle.sia_edge.specs.Disk.{Quiet, Faulted, Fills};
 
 use crate::{Did, Disk, Got};
 use sia_encoding::Blob;
@@ -11,11 +10,11 @@ use std::mem;
 
 /// Fills the buffer with the bytes at a place. After `Failed` the buffer holds any bytes.
 pub fn read_whole<D: Disk>(disk: &mut D, at: u64, buffer: &mut [u8]) -> Did
-    requires { at + length buffer.old ≤ length (D.seen disk.old) }
-    ensures bytes { IsTrue D.tells → Fills result buffer.new at (D.seen disk.old) }
+    requires { at + length buffer.old ≤ length (D.standing disk.old).seen }
+    ensures bytes { IsTrue D.tells → Fills result buffer.new at (D.standing disk.old).seen }
     ensures fits { (i : ℕ) → slice_index buffer.new i < 256 }
-    ensures quiet { Quiet D.seen D.moment D.since disk.old disk.new }
-    ensures cause { DidCause (D.faults disk.old) (D.faults disk.new) result }
+    ensures quiet { Quiet (D.standing disk.old) (D.standing disk.new) }
+    ensures cause { result ≡ Did.Failed → Faulted (D.standing disk.old) (D.standing disk.new) }
 {
     let end = disk.length();
     let mut done = 0;
@@ -54,13 +53,12 @@ pub fn read_into<D: Disk>(
     count: u64,
     out: &mut Blob,
 ) -> Result<(), ReadFault>
-    requires { at + count ≤ length (D.seen disk.old) }
-    ensures bytes { IsTrue D.tells → OnOk result (out.new ≡ out.old ++ take count (drop at (D.seen disk.old))) }
+    requires { at + count ≤ length (D.standing disk.old).seen }
+    ensures bytes { IsTrue D.tells → OnOk result (out.new ≡ out.old ++ take count (drop at (D.standing disk.old).seen)) }
     ensures size { OnOk result (length out.new ≡ length out.old + count) }
     ensures err { OnErr result (out.new ≡ out.old) }
-    ensures quiet { Quiet D.seen D.moment D.since disk.old disk.new }
-    ensures later { D.faults disk.old ≤ D.faults disk.new }
-    ensures failed { IfErr result (λ fault. fault ≡ ReadFault.Failed → Rose (D.faults disk.old) (D.faults disk.new)) }
+    ensures quiet { Quiet (D.standing disk.old) (D.standing disk.new) }
+    ensures failed { result ≡ Err ReadFault.Failed → Faulted (D.standing disk.old) (D.standing disk.new) }
 {
     let mut bytes = mem::replace(out, Blob::new(alloc)).into_vec();
     let read = read_onto(disk, at, count, &mut bytes);
@@ -76,14 +74,13 @@ pub fn read_onto<D: Disk>(
     count: u64,
     bytes: &mut Vec<u8>,
 ) -> Result<(), ReadFault>
-    requires { at + count ≤ length (D.seen disk.old) }
-    ensures bytes { IsTrue D.tells → OnOk result (bytes.new.items ≡ bytes.old.items ++ take count (drop at (D.seen disk.old))) }
+    requires { at + count ≤ length (D.standing disk.old).seen }
+    ensures bytes { IsTrue D.tells → OnOk result (bytes.new.items ≡ bytes.old.items ++ take count (drop at (D.standing disk.old).seen)) }
     ensures size { OnOk result (length bytes.new.items ≡ length bytes.old.items + count) }
     ensures err { OnErr result (bytes.new.items ≡ bytes.old.items) }
     ensures room { vec_len bytes.old + count ≤ vec_capacity bytes.old → result ≢ Err ReadFault.Memory }
-    ensures quiet { Quiet D.seen D.moment D.since disk.old disk.new }
-    ensures later { D.faults disk.old ≤ D.faults disk.new }
-    ensures failed { IfErr result (λ fault. fault ≡ ReadFault.Failed → Rose (D.faults disk.old) (D.faults disk.new)) }
+    ensures quiet { Quiet (D.standing disk.old) (D.standing disk.new) }
+    ensures failed { result ≡ Err ReadFault.Failed → Faulted (D.standing disk.old) (D.standing disk.new) }
 {
     let start = bytes.len();
     let Some(end) = start.checked_add(count as usize) else {

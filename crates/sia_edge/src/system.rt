@@ -1,51 +1,20 @@
 //! Files and standard streams as sources and sinks. No contract says which bytes they give or take.
-ghost use Rattle.std.specs.Prelude.{◌≡◌, ◌≤◌, None, Some, IsNone, length};
-ghost use Rattle.sia_edge.specs.Edge.{GotWithin, Reads, GotCause, PutWithin, Writes, PutCause};
+ghost use Rattle.std.specs.Prelude.{◌≡◌, ◌<◌, ◌≤◌, ◌⊎◌, None, Some, IsNone, IsSome, IsTrue, false, length};
+ghost use Rattle.sia_edge.specs.Edge.{Rose, GotWithin, Reads, GotCause, PutWithin, Writes, PutCause};
 
-use crate::{Got, Put, Sink, Source};
-use std::fs::{self, File};
-use std::io::{ErrorKind, Read, Stderr, Stdout, Write};
+use crate::attempts::{read_some, write_some};
+use crate::fault_count::FaultCount;
+use crate::opening::{open_named, open_or_make};
+use crate::{Did, Got, Put, Sink, Source};
+use std::fs::{File, OpenOptions};
+use std::io::{self, Stderr, Stdout};
 use std::rt::Files;
-use std::str;
-
-/// One read, tried again where a signal interrupts it.
-fn read_some<R: Read>(reader: &mut R, buffer: &mut [u8]) -> Got
-    ensures { GotWithin result (length buffer.new) }
-{
-    for _ in 0..u64::MAX {
-        match reader.read(buffer) {
-            Ok(0) => return Got::End,
-            Ok(count) => return Got::Bytes(count),
-            Err(error) if error.kind() == ErrorKind::Interrupted => {}
-            Err(_) => return Got::Failed,
-        }
-    }
-    Got::Failed
-}
-
-/// One write, tried again where a signal interrupts it. Taking none of a piece that isn't empty is a failure.
-fn write_some<W: Write>(writer: &mut W, piece: &[u8]) -> Put
-    ensures { PutWithin result (length piece.now) }
-{
-    if piece.is_empty() {
-        return Put::Taken(0);
-    }
-    for _ in 0..u64::MAX {
-        match writer.write(piece) {
-            Ok(0) => return Put::Failed,
-            Ok(count) => return Put::Taken(count),
-            Err(error) if error.kind() == ErrorKind::Interrupted => {}
-            Err(_) => return Put::Failed,
-        }
-    }
-    Put::Failed
-}
 
 /// A file that is read from its start to its end, or none, for a file that didn't open.
 #[derive(Drop)]
 pub struct FileSource {
     file: Option<File>,
-    faults: u64,
+    faults: FaultCount,
 }
 
 impl FileSource {
@@ -56,7 +25,7 @@ impl FileSource {
     {
         FileSource {
             file: Some(file),
-            faults: 0,
+            faults: FaultCount::none(),
         }
     }
 
@@ -67,7 +36,7 @@ impl FileSource {
     {
         FileSource {
             file: None,
-            faults: 0,
+            faults: FaultCount::none(),
         }
     }
 
@@ -75,10 +44,7 @@ impl FileSource {
     pub fn open<R: Files<File = File>>(rt: &R, name: &[u8]) -> FileSource
         ensures { result.faults ≡ 0 }
     {
-        let Ok(path) = str::from_utf8(name) else {
-            return FileSource::empty();
-        };
-        match fs::open(rt, path) {
+        match open_named(rt, OpenOptions::new().read(true), name) {
             Ok(file) => FileSource::new(file),
             Err(_) => FileSource::empty(),
         }
@@ -91,6 +57,7 @@ impl Source for FileSource {
     ghost faults = { λ source. source.faults };
 
     fn read(&mut self, buffer: &mut [u8]) -> Got
+        requires { 0 < length buffer.old }
         ensures bound { GotWithin result (length buffer.new) }
         ensures bytes { Reads None None result buffer.new }
         ensures cause { GotCause self.old.faults self.new.faults result }
@@ -101,53 +68,112 @@ impl Source for FileSource {
             None => Got::Failed,
         };
         if got == Got::Failed {
-            self.faults = self.faults.saturating_add(1);
+            self.faults.add();
         }
         got
     }
 }
 
-/// A file that is written from its start, or none, for a file that didn't open.
+/// A file that is written from its start, or none, for a file that didn't open. What it held before stands until the first
+/// write or `finish`, whichever comes first, empties it: so a run that is refused before it wrote anything leaves it as it was.
 #[derive(Drop)]
 pub struct FileSink {
     file: Option<File>,
-    faults: u64,
+    holds_old: bool,
+    faults: FaultCount,
+}
+
+/// Empties a file. One that isn't a regular file, as a pipe, keeps nothing.
+fn empty_out(file: &File) -> io::Result<()> {
+    if file.metadata()?.is_file() {
+        file.set_len(0)?;
+    }
+    Ok(())
+}
+
+/// Syncs a file. One that isn't a regular file, as a pipe, keeps nothing.
+fn sync_kept(file: &File) -> io::Result<()> {
+    if file.metadata()?.is_file() {
+        file.sync_all()?;
+    }
+    Ok(())
 }
 
 impl FileSink {
     /// Writes to this file from where it stands.
     pub fn new(file: File) -> FileSink
         ensures file { result.file ≡ Some file }
+        ensures new { result.holds_old ≡ false }
         ensures faults { result.faults ≡ 0 }
     {
         FileSink {
             file: Some(file),
-            faults: 0,
+            holds_old: false,
+            faults: FaultCount::none(),
         }
     }
 
-    /// No file: each write fails and counts.
+    /// No file: each call fails and counts.
     pub fn empty() -> FileSink
         ensures file { IsNone result.file }
         ensures faults { result.faults ≡ 0 }
     {
         FileSink {
             file: None,
-            faults: 0,
+            holds_old: false,
+            faults: FaultCount::none(),
         }
     }
 
-    /// Makes or empties the file of this name, and is empty where that can't be done. A name that isn't UTF-8 can't.
+    /// Opens the file of this name, and makes it and syncs its folder where it is missing. It is empty where that can't be
+    /// done. A name that isn't UTF-8 can't be opened.
     pub fn create<R: Files<File = File>>(rt: &R, name: &[u8]) -> FileSink
-        ensures { result.faults ≡ 0 }
+        ensures old { IsSome result.file → IsTrue result.holds_old }
+        ensures faults { result.faults ≡ 0 }
     {
-        let Ok(path) = str::from_utf8(name) else {
-            return FileSink::empty();
-        };
-        match fs::create(rt, path) {
-            Ok(file) => FileSink::new(file),
+        match open_or_make(rt, name) {
+            Ok(file) => FileSink {
+                file: Some(file),
+                holds_old: true,
+                faults: FaultCount::none(),
+            },
             Err(_) => FileSink::empty(),
         }
+    }
+
+    /// Empties the file where it still holds what it held before.
+    fn begin(&mut self) -> Did
+        ensures empty { IsNone self.old.file → (result ≡ Did.Failed) × IsNone self.new.file }
+        ensures begun { result ≡ Did.Done → self.new.holds_old ≡ false }
+        ensures same { self.new.faults ≡ self.old.faults }
+    {
+        let Some(file) = &self.file else {
+            return Did::Failed;
+        };
+        if self.holds_old && empty_out(file).is_err() {
+            return Did::Failed;
+        }
+        self.holds_old = false;
+        Did::Done
+    }
+
+    /// Ends the writing: the file holds what was written and nothing else, and is synced. It fails where the system does, and
+    /// counts then.
+    pub fn finish(&mut self) -> Did
+        ensures empty { IsNone self.old.file → (result ≡ Did.Failed) × IsNone self.new.file }
+        ensures begun { result ≡ Did.Done → self.new.holds_old ≡ false }
+        ensures later { self.old.faults ≤ self.new.faults }
+        ensures failed { result ≡ Did.Failed → Rose self.old.faults self.new.faults }
+    {
+        let begun = self.begin();
+        let did = match &self.file {
+            Some(file) if begun == Did::Done && sync_kept(file).is_ok() => Did::Done,
+            _ => Did::Failed,
+        };
+        if did == Did::Failed {
+            self.faults.add();
+        }
+        did
     }
 }
 
@@ -161,13 +187,15 @@ impl Sink for FileSink {
         ensures bytes { Writes None None result piece.now }
         ensures cause { PutCause self.old.faults self.new.faults result }
         ensures empty { IsNone self.old.file → (result ≡ Put.Failed) × IsNone self.new.file }
+        ensures begun { result ≡ Put.Failed ⊎ (self.new.holds_old ≡ false) }
     {
+        let begun = self.begin();
         let put = match &mut self.file {
-            Some(file) => write_some(file, piece),
-            None => Put::Failed,
+            Some(file) if begun == Did::Done => write_some(file, piece),
+            _ => Put::Failed,
         };
         if put == Put::Failed {
-            self.faults = self.faults.saturating_add(1);
+            self.faults.add();
         }
         put
     }
@@ -184,7 +212,7 @@ enum Stream {
 #[derive(Drop)]
 pub struct StdSink {
     stream: Stream,
-    faults: u64,
+    faults: FaultCount,
 }
 
 impl StdSink {
@@ -194,7 +222,7 @@ impl StdSink {
     {
         StdSink {
             stream: Stream::Output(stream),
-            faults: 0,
+            faults: FaultCount::none(),
         }
     }
 
@@ -204,7 +232,7 @@ impl StdSink {
     {
         StdSink {
             stream: Stream::Error(stream),
-            faults: 0,
+            faults: FaultCount::none(),
         }
     }
 }
@@ -220,7 +248,7 @@ impl Sink for StdSink {
             Stream::Error(stream) => write_some(stream, piece),
         };
         if put == Put::Failed {
-            self.faults = self.faults.saturating_add(1);
+            self.faults.add();
         }
         put
     }

@@ -1,4 +1,4 @@
 mod DigitLemmas
-pub mod CodecLemmas
-pub mod ItemLemmas
 pub mod ElementLemmas
+pub mod Answering
+mod Decodings

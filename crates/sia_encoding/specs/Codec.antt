@@ -1,4 +1,5 @@
--- What a spelling and a reading owe each other: each value has one spelling, and it is read back.
+-- What a spelling and a reading owe each other: each value has one spelling, and it is read back (siad's doc/Encoding.md).
+-- What is spelled and read, and the values that fit a limit, are one definition: a codec.
 use Rattle.std.specs.Prelude.{◌≡◌, ℕ, ◌+◌, ◌^◌, ◌<◌, ◌≤◌, ◌++◌, Bool, List, [], length, All, IfOk, Result, Ok}
 use Rattle.std.specs.Int.Digits.{digits_of}
 use Rattle.sia_encoding.specs.declared.fault.DecodeFault.{DecodeFault}
@@ -28,12 +29,23 @@ pub record IsCodec {A : Type 0} (Fits : ℕ → A → Type 0) (spelled : A → L
   -- no spelling is a proper prefix of another
   pub no_prefix : (limit : ℕ) (value other : A) (rest : List ℕ) → Fits limit value → Fits limit other → spelled value ≡ spelled other ++ rest → (value ≡ other) × (rest ≡ [])
 
+-- how the values of a type are spelled and read, and which of them fit a limit of lengths and counts
+pub record Codec (A : Type 0) : Type 1 where
+  pub fits : ℕ → A → Type 0
+  pub spelled : A → List ℕ
+  pub reading : Spot → Result (A × Spot) DecodeFault
+
+-- its reading gives back what its spelling writes
+abbrev pub Lawful : {A : Type 0} → Codec A → Type 0
+Lawful codec = IsCodec codec.fits codec.spelled codec.reading
+
 -- the values that fit
 
--- a fixed array of n bytes, which is spelled as it is
+-- a fixed array of n bytes
 abbrev pub IsFixed : ℕ → ℕ → List ℕ → Type 0
 IsFixed n limit bytes = (length bytes ≡ n) × AreBytes bytes
 
+-- a fixed array is spelled as it is
 abbrev pub spelled_fixed : List ℕ → List ℕ
 spelled_fixed bytes = bytes
 

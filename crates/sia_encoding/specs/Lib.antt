@@ -1,3 +1,11 @@
+pub mod Answer
+pub mod Firsts
 pub mod Spelling
 pub mod Reading
 pub mod Codec
+pub mod Items
+pub mod Records
+pub mod Decoding
+pub mod CodecLaws
+pub mod ItemLaws
+pub mod RecordLaws

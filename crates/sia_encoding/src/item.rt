@@ -1,194 +1,78 @@
-//! The values that have a spelling of their own, so that lists and records are made of them.
+//! What a value owes that has a spelling of its own, so that lists and records are made of it.
 ghost use Rattle.std.specs.Prelude.{◌≡◌, ℕ, List as Sequence, ◌++◌, length, take, Result, IfOk, OnOk, OnErr};
-ghost use Rattle.std.specs.List.{flat_map};
-ghost use Rattle.sia_encoding.specs.declared.fault.DecodeFault.{DecodeFault};
-ghost use Rattle.sia_encoding.specs.Spelling.{spelled_bytes, spelled_currency, spelled_u64};
-ghost use Rattle.sia_encoding.specs.Reading.{Spot, TakesInMemory, bytes_at, currency_at, elements_at, fixed_at, u64_at};
-ghost use Rattle.sia_encoding.specs.Codec.{IsByteString, IsCurrency, IsFixed, IsU64, spelled_fixed};
+ghost use Rattle.sia_encoding.specs.Answer.{Answers};
+ghost use Rattle.sia_encoding.specs.Codec.{Codec, Lawful};
+ghost use Rattle.sia_encoding.specs.Decoding.{IsDecoded, front_at};
+ghost use Rattle.sia_encoding.specs.Reading.{fault_told};
 
 use crate::blob::Blob;
 use crate::cursor::Cursor;
 use crate::fault::DecodeFault;
-use crate::list::List;
-use crate::put::{put_bytes, put_currency, put_fixed, put_u64};
 use std::alloc::{AllocError, Global};
 
-/// A value that has a spelling. That it has only one, and is read back, is a law for each such type ([`crate::laws`]).
+/// A value that has one spelling, and is read back from it whatever follows.
+///
+/// A type gives [`Item::read`], [`Item::write`] and [`Item::copy`], each over its fields; the other calls stand on them.
 pub trait Item: Drop {
-    /// The value is of its type, and no length or count of its spelling is above the limit.
-    ghost fits: { ℕ → Self → Type 0 };
+    /// How it is spelled and read, and which values fit a limit of lengths and counts.
+    ghost codec: { Codec Self };
 
-    /// How it is spelled.
-    ghost spelled: { Self → Sequence ℕ };
+    /// Reads one value and goes on behind it, or answers the first fault: then nothing is said of where the cursor stands,
+    /// and [`Item::take`] stays.
+    fn read(alloc: Global, cursor: &mut Cursor<'_>) -> Result<Self, DecodeFault>
+        ensures { Answers (λ value. (value, cursor.new)) fault_told result (codec.reading cursor.old) };
 
-    /// How it is read.
-    ghost reading: { Spot → Result (Self × Spot) DecodeFault };
-
-    /// Reads one value and goes on behind it, or answers the first fault and stays.
-    fn take(alloc: Global, cursor: &mut Cursor<'_>) -> Result<Self, DecodeFault>
-        ensures reading { TakesInMemory result cursor.new (reading cursor.old) }
-        ensures kept { OnErr result (cursor.new ≡ cursor.old) };
-
-    /// Appends the value's spelling to the bytes that are there. Its error is want of memory: `out` stays.
-    fn encode(&self, out: &mut Blob) -> Result<(), AllocError>
-        ensures ok { OnOk result (out.new ≡ out.old ++ spelled self.now) }
-        ensures err { OnErr result (out.new ≡ out.old) };
+    /// Appends the value's spelling. Its error is want of memory: some of it may then stand behind what was there.
+    fn write(&self, out: &mut Blob) -> Result<(), AllocError>
+        ensures ok { OnOk result (out.new ≡ out.old ++ codec.spelled self.now) }
+        ensures err { OnErr result (take (length out.old) out.new ≡ out.old) };
 
     /// An equal value. Its error is want of memory.
     fn copy(&self, alloc: Global) -> Result<Self, AllocError>
         ensures { IfOk result (λ value. value ≡ self.now) };
-}
 
-/// A fixed array: its bytes. A hash is one of 32.
-impl<const N: usize> Item for [u8; N] {
-    ghost fits = { IsFixed N };
+    /// Each value has one spelling, what is read is spelled so, what is spelled so within the limit is read whatever
+    /// follows, and no spelling is a proper prefix of another.
+    ghost law: { Lawful codec };
 
-    ghost spelled = { spelled_fixed };
-
-    ghost reading = { fixed_at N };
-
-    fn take(_alloc: Global, cursor: &mut Cursor<'_>) -> Result<[u8; N], DecodeFault> {
-        cursor.take_fixed::<N>()
-    }
-
-    fn encode(&self, out: &mut Blob) -> Result<(), AllocError> {
-        put_fixed(out, self)
-    }
-
-    fn copy(&self, _alloc: Global) -> Result<[u8; N], AllocError> {
-        Ok(*self)
-    }
-}
-
-/// An integer: 8 bytes.
-impl Item for u64 {
-    ghost fits = { IsU64 };
-
-    ghost spelled = { spelled_u64 };
-
-    ghost reading = { u64_at };
-
-    fn take(_alloc: Global, cursor: &mut Cursor<'_>) -> Result<u64, DecodeFault> {
-        cursor.take_u64()
-    }
-
-    fn encode(&self, out: &mut Blob) -> Result<(), AllocError> {
-        put_u64(out, *self)
-    }
-
-    fn copy(&self, _alloc: Global) -> Result<u64, AllocError> {
-        Ok(*self)
-    }
-}
-
-/// A currency in hastings: the byte string of its digits.
-impl Item for u128 {
-    ghost fits = { IsCurrency };
-
-    ghost spelled = { spelled_currency };
-
-    ghost reading = { currency_at };
-
-    fn take(_alloc: Global, cursor: &mut Cursor<'_>) -> Result<u128, DecodeFault> {
-        cursor.take_currency()
-    }
-
-    fn encode(&self, out: &mut Blob) -> Result<(), AllocError> {
-        put_currency(out, *self)
-    }
-
-    fn copy(&self, _alloc: Global) -> Result<u128, AllocError> {
-        Ok(*self)
-    }
-}
-
-/// A byte string: its length and its bytes.
-impl Item for Blob {
-    ghost fits = { IsByteString };
-
-    ghost spelled = { spelled_bytes };
-
-    ghost reading = { bytes_at };
-
-    fn take(alloc: Global, cursor: &mut Cursor<'_>) -> Result<Blob, DecodeFault> {
+    /// Reads one value and goes on behind it, or answers the first fault and stays.
+    final fn take(alloc: Global, cursor: &mut Cursor<'_>) -> Result<Self, DecodeFault>
+        ensures reading { Answers (λ value. (value, cursor.new)) fault_told result (codec.reading cursor.old) }
+        ensures kept { OnErr result (cursor.new ≡ cursor.old) }
+    {
         let mut ahead = cursor.copy();
-        let bytes = Blob::from_slice(alloc, ahead.take_bytes()?)?;
+        let value = Self::read(alloc, &mut ahead)?;
         *cursor = ahead;
-        Ok(bytes)
+        Ok(value)
     }
 
-    fn encode(&self, out: &mut Blob) -> Result<(), AllocError> {
-        put_bytes(out, self.as_slice())
-    }
-
-    fn copy(&self, alloc: Global) -> Result<Blob, AllocError> {
-        Blob::from_slice(alloc, self.as_slice())
-    }
-}
-
-/// A list: its count and its elements.
-impl<T: Item> Item for List<T> {
-    ghost use Rattle.sia_encoding.specs.Spelling.{spelled_list};
-    ghost use Rattle.sia_encoding.specs.Reading.{list_at};
-    ghost use Rattle.sia_encoding.specs.Codec.{IsListOf};
-
-    ghost fits = { IsListOf T.fits };
-
-    ghost spelled = { spelled_list T.spelled };
-
-    ghost reading = { list_at T.reading };
-
-    #[tactic(auto, unfolding(crate::specs::Reading::list_at))]
-    fn take(alloc: Global, cursor: &mut Cursor<'_>) -> Result<List<T>, DecodeFault> {
-        let mut ahead = cursor.copy();
-        let count = ahead.take_count()?;
-        let items = take_elements(alloc, &mut ahead, count)?;
-        *cursor = ahead;
-        Ok(items)
-    }
-
-    #[tactic(auto, unfolding(crate::specs::Spelling::spelled_list))]
-    fn encode(&self, out: &mut Blob) -> Result<(), AllocError> {
+    /// Appends the value's spelling to the bytes that are there. Its error is want of memory: `out` stays.
+    final fn encode(&self, out: &mut Blob) -> Result<(), AllocError>
+        ensures ok { OnOk result (out.new ≡ out.old ++ codec.spelled self.now) }
+        ensures err { OnErr result (out.new ≡ out.old) }
+    {
         let before = out.len();
-        put_u64(out, self.len() as u64)?;
-        if put_elements(out, self.as_slice()).is_err() {
+        if self.write(out).is_err() {
             out.truncate(before);
             return Err(AllocError);
         }
         Ok(())
     }
 
-    fn copy(&self, alloc: Global) -> Result<List<T>, AllocError> {
-        let mut copied = List::new(alloc);
-        for item in self.as_slice() {
-            copied.push(item.copy(alloc)?)?;
-        }
-        Ok(copied)
+    /// Reads one value off the front of the bytes, and tells how many bytes it took. A fault is the first from the
+    /// left: no length and no count may pass the limit. `Memory` is want of memory and says nothing of the bytes.
+    final fn decode(alloc: Global, bytes: &[u8], limit: u64) -> Result<(Self, u64), DecodeFault>
+        ensures { IsDecoded codec bytes.now limit result }
+    {
+        read_front::<Self>(alloc, bytes, limit)
     }
 }
 
-// So many elements, one behind the other.
-fn take_elements<T: Item>(
-    alloc: Global,
-    cursor: &mut Cursor<'_>,
-    count: u64,
-) -> Result<List<T>, DecodeFault>
-    ensures { TakesInMemory result cursor.new (elements_at T.reading count cursor.old) }
+// One value off the front of the bytes, and how many bytes it took.
+fn read_front<T: Item>(alloc: Global, bytes: &[u8], limit: u64) -> Result<(T, u64), DecodeFault>
+    ensures { Answers (λ taken. taken) fault_told result (front_at T.codec bytes.now limit) }
 {
-    let mut items = List::new(alloc);
-    for _ in 0..count {
-        items.push(T::take(alloc, cursor)?)?;
-    }
-    Ok(items)
-}
-
-// The elements' spellings. After an error some of them stand behind what was there.
-fn put_elements<T: Item>(out: &mut Blob, items: &[T]) -> Result<(), AllocError>
-    ensures ok { OnOk result (out.new ≡ out.old ++ flat_map T.spelled items.now) }
-    ensures err { OnErr result (take (length out.old) out.new ≡ out.old) }
-{
-    for item in items {
-        item.encode(out)?;
-    }
-    Ok(())
+    let mut cursor = Cursor::new(bytes, limit);
+    let value = T::read(alloc, &mut cursor)?;
+    Ok((value, cursor.at()))
 }

@@ -1,38 +1,13 @@
 -- What each step of an append leaves.
-use Rattle.std.proofs.Common.{◌≡◌, inl, inr, ℕ, ◌+◌, ◌≤◌, max, List, [], ◌∷◌, ◌++◌, length, drop, get_or, refl, sym, ap, subst, ◌∙◌, append_assoc, length-append, arith}
+use Rattle.std.proofs.Common.{◌≡◌, inl, inr, ℕ, ◌+◌, ◌≤◌, List, [], ◌∷◌, ◌++◌, length, drop, get_or, refl, sym, ap, subst, ◌∙◌, append_assoc, length-append, arith}
 use Rattle.sia_encoding.specs.Spelling.{spelled_bytes}
-use Rattle.sia_edge.specs.declared.disk.Did.{Did}
-use Rattle.sia_edge.specs.declared.disk.Did.TheVariants as did
-use Rattle.sia_edge.specs.Disk.{Torn, overwritten, Overwrites, Lengthens, Settles, Only, Follows, Passes, Run, Earlier}
-use Rattle.sia_edge.proofs.Runs.{goes_on}
+use Rattle.sia_edge.specs.Disk.{Standing, Torn, overwritten, IsSettled, Only, Changes, Leaves, images_of}
+use Rattle.sia_edge.proofs.Runs.{goes_on, weaken, step_of_only}
 use Rattle.sia_journal.specs.Listed.{HEADER, frames, file_of, at_rest, place_after}
 use Rattle.sia_journal.specs.Journal.{Holds, IsStaged, MidAppend}
 use Rattle.sia_journal.proofs.Frames.{body_size}
 use Rattle.sia_journal.proofs.Listing.{length-file, file_push}
 use Rattle.sia_journal.proofs.Tearing.{torn_at_end, written_at_end, torn_within, written_within}
-
--- each new image is the only old one after a step
-pub step_of_only : {bytes : List ℕ} {step : List ℕ → List ℕ → Type 0} {old new : List ℕ → Type 0} → Only bytes old → Follows step old new
-    → (file : List ℕ) → new file → step bytes file
-step_of_only {bytes} {step} {old} {new} only follows file left =
-    let from = follows file left in
-    let P : List ℕ → Type 0 = λ before. step before file in
-    subst P (only from.0 from.1) from.2
-
--- a write that was done, and then a sync
-pub written_kept : (place : ℕ) (bytes old first second : List ℕ) (images : List ℕ → Type 0) (write sync : Did) → write ≡ did.Done → sync ≡ did.Done
-    → Overwrites write place bytes old first → second ≡ first → Settles sync second images
-    → (second ≡ overwritten old place bytes) × Only second images
-written_kept place bytes old first second images write sync written synced wrote same settles =
-    let P : Did → Type 0 = λ d. Overwrites d place bytes old first in
-    let Q : Did → Type 0 = λ d. Settles d second images in
-    (same ∙ subst P written wrote, subst Q synced settles)
-
--- the length after a write that was done
-pub lengthened : (write : Did) (end old new : ℕ) → write ≡ did.Done → Lengthens write end old new → new ≡ max old end
-lengthened write end old new written lengthens =
-    let P : Did → Type 0 = λ d. Lengthens d end old new in
-    subst P written lengthens
 
 pub file_of_more : (header : List ℕ) (records : List (List ℕ)) (some more : List ℕ) → file_of header records some ++ more ≡ file_of header records (some ++ more)
 file_of_more header records some more =
@@ -96,8 +71,7 @@ module _ (header : List ℕ) (records : List (List ℕ)) (payload : List ℕ) (l
       ∙ sym (in_two header records (1 ∷ body))
       ∙ file_push header records payload (0 ∷ [])
 
-  module _ {D : Type 0} (seen : D → List ℕ) (moment : D → ℕ) (since : D → ℕ → List ℕ → Type 0) (gate : ℕ) (begin : D)
-      (holds : Holds seen moment since header records begin) (ends : gate + 1 ≡ length (seen begin)) (fits : length (seen begin) + (9 + length payload) ≤ limit) where
+  module _ {begin : Standing} (gate : ℕ) (holds : Holds header records begin) (ends : gate + 1 ≡ length begin.seen) (fits : length begin.seen + (9 + length payload) ≤ limit) where
     place : gate ≡ place_after records
     place = omega (arith, ends, ap length holds.is, length-at_rest)
 
@@ -105,46 +79,33 @@ module _ (header : List ℕ) (records : List (List ℕ)) (payload : List ℕ) (l
     room = omega (arith, fits, ap length holds.is)
 
     -- after the first write
-    pub wrote_body : (next : D) (bytes : List ℕ) → bytes ≡ body → Passes (moment begin) (moment next) (since begin) (since next)
-        → Follows (Torn (gate + 1) (length bytes)) (since begin (moment begin)) (since next (moment begin))
-        → Run moment since begin next (MidAppend header limit records payload)
-    wrote_body next bytes is time follows =
-        record {
-          passes = time;
-          leaves = λ file left.
-              let torn = step_of_only holds.only follows file left in
-              let Q : ℕ → Type 0 = λ k. Torn (k + 1) (length bytes) (at_rest header records) file in
-              let R : List ℕ → Type 0 = λ b. Torn (place_after records + 1) (length b) (at_rest header records) file in
-              torn_body room file (subst R is (subst Q place torn));
-        }
+    pub wrote_body : {next : Standing} {bytes : List ℕ} → bytes ≡ body → Changes (Torn (gate + 1) (length bytes)) begin next
+        → Leaves (MidAppend header limit records payload) begin next
+    wrote_body {next} {bytes} is changes = weaken (step_of_only holds.only changes) (λ file torn.
+        let Q : ℕ → Type 0 = λ k. Torn (k + 1) (length bytes) (at_rest header records) file in
+        let R : List ℕ → Type 0 = λ b. Torn (place_after records + 1) (length b) (at_rest header records) file in
+        torn_body room file (subst R is (subst Q place torn)))
 
     -- the first write is on the disk
-    pub body_kept : (first second : D) (bytes : List ℕ) (write sync : Did) → bytes ≡ body → write ≡ did.Done → sync ≡ did.Done
-        → Overwrites write (gate + 1) bytes (seen begin) (seen first) → seen second ≡ seen first → Settles sync (seen second) (since second (moment second))
-        → (seen second ≡ staged 0) × Only (staged 0) (since second (moment second))
-    body_kept first second bytes write sync is written synced wrote same settles =
-        let kept = written_kept (gate + 1) bytes (seen begin) (seen first) (seen second) (since second (moment second)) write sync written synced wrote same settles in
-        let now : seen second ≡ staged 0 =
-        kept.0 ∙ ap (λ f. overwritten f (gate + 1) bytes) holds.is ∙ ap (λ k. overwritten (at_rest header records) (k + 1) bytes) place
+    pub body_kept : (next : Standing) {bytes : List ℕ} → bytes ≡ body → next.seen ≡ overwritten begin.seen (gate + 1) bytes → IsSettled next
+        → (next.seen ≡ staged 0) × Only (staged 0) (images_of next)
+    body_kept next {bytes} is kept only =
+        let now : next.seen ≡ staged 0 =
+        kept ∙ ap (λ f. overwritten f (gate + 1) bytes) holds.is ∙ ap (λ k. overwritten (at_rest header records) (k + 1) bytes) place
         ∙ ap (overwritten (at_rest header records) (place_after records + 1)) is ∙ body_written in
-        (now, λ file left. kept.1 file left ∙ now)
+        (now, λ file left. only file left ∙ now)
 
     -- after the second write
-    pub wrote_gate : (mid next : D) → Run moment since begin mid (MidAppend header limit records payload)
-        → Only (staged 0) (since mid (moment mid)) → Passes (moment mid) (moment next) (since mid) (since next) → Earlier (moment next) (since next)
-        → Follows (Torn gate 1) (since mid (moment mid)) (since next (moment mid))
-        → Run moment since begin next (MidAppend header limit records payload)
-    wrote_gate mid next run only time earlier follows = goes_on run time earlier (λ file left.
-        let torn = step_of_only only follows file left in
+    pub wrote_gate : {mid next : Standing} → Leaves (MidAppend header limit records payload) begin mid → Only (staged 0) (images_of mid)
+        → Changes (Torn gate 1) mid next → Leaves (MidAppend header limit records payload) begin next
+    wrote_gate run only changes = goes_on run (step_of_only only changes) (λ file torn.
         let Q : ℕ → Type 0 = λ k. Torn k 1 (staged 0) file in
         inr (inr (torn_gate 0 file (omega (arith, room, length-staged 0)) (subst Q place torn))))
 
     -- the second write is on the disk
-    pub gate_kept : (mid first last : D) (write sync : Did) → write ≡ did.Done → sync ≡ did.Done → seen mid ≡ staged 0
-        → Overwrites write gate (1 ∷ []) (seen mid) (seen first) → seen last ≡ seen first → Settles sync (seen last) (since last (moment last))
-        → Holds seen moment since header (records ++ payload ∷ []) last
-    gate_kept mid first last write sync written synced was wrote same settles =
-        let kept = written_kept gate (1 ∷ []) (seen mid) (seen first) (seen last) (since last (moment last)) write sync written synced wrote same settles in
-        let now : seen last ≡ at_rest header (records ++ payload ∷ []) =
-        kept.0 ∙ ap (λ f. overwritten f gate (1 ∷ [])) was ∙ ap (λ k. overwritten (staged 0) k (1 ∷ [])) place ∙ gate_written in
-        record { is = now; only = λ file left. kept.1 file left ∙ now }
+    pub gate_kept : (mid last : Standing) → mid.seen ≡ staged 0 → last.seen ≡ overwritten mid.seen gate (1 ∷ []) → IsSettled last
+        → Holds header (records ++ payload ∷ []) last
+    gate_kept mid last was kept only =
+        let now : last.seen ≡ at_rest header (records ++ payload ∷ []) =
+        kept ∙ ap (λ f. overwritten f gate (1 ∷ [])) was ∙ ap (λ k. overwritten (staged 0) k (1 ∷ [])) place ∙ gate_written in
+        record { sized = holds.sized; is = now; only = λ file left. only file left ∙ now }

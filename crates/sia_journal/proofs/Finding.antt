@@ -3,10 +3,11 @@ use Rattle.std.proofs.Common.{◌≡◌, ℕ, ◌^◌, ◌<◌, ◌≤◌, Bool,
 use Rattle.std.proofs.lemmas.Bool.Decides.{Decides-eqb}
 use Rattle.std.proofs.lemmas.Slice.Eq.{slice_eq-Decides}
 use Rattle.std.specs.Str.{bytes_eq}
+use Rattle.sia_edge.specs.Disk.{Standing, Quiet}
 use Rattle.sia_journal.specs.declared.fault.JournalFault.{JournalFault}
 use Rattle.sia_journal.specs.declared.fault.JournalFault.TheVariants as fault
 use Rattle.sia_journal.specs.declared.window.Window.{Window}
-use Rattle.sia_journal.specs.Listed.{HEADER, FRESH, listed}
+use Rattle.sia_journal.specs.Listed.{HEADER, FRESH}
 use Rattle.sia_journal.specs.Journal.{OpenCause}
 use Rattle.sia_journal.specs.Opening.{Shows, BreaksAt, WalkCause}
 use Rattle.sia_journal.proofs.Repairing.{breaks_listed}
@@ -31,13 +32,13 @@ pub this_header : (file header front : List ℕ) (differ : Bool) → front ≡ t
 this_header file header front differ read test is =
     sym read ∙ (slice_eq-Decides Decides-eqb front header _ refl).0 (false_not (bytes_eq front header) (sym is ∙ test))
 
-module _ (tells : Bool) (header : List ℕ) (limit : ℕ) (file : List ℕ) (size : IsTrue tells → length header ≡ HEADER) (bounded : limit < 2 ^ 64)
-    (begins : IsTrue tells → take HEADER file ≡ header) (long : FRESH < length file) (within : length file ≤ limit) where
-  pub walk_cause : (file' : List ℕ) (window : Window) (before mid now : ℕ) → file' ≡ file → before ≤ mid → (IsTrue tells → Shows file' window)
-      → (cause : JournalFault) → WalkCause tells file' window mid now cause → OpenCause tells before now (listed header limit file) cause
-  walk_cause file' window before mid now same later shows fault.Memory given = tt
-  walk_cause file' window before mid now same later shows fault.Disk given = omega (arith, later, given)
-  walk_cause file' window before mid now same later shows (fault.Damaged place) given = λ told.
+module _ (tells : Bool) (header : List ℕ) (limit : ℕ) {old : Standing} (size : IsTrue tells → length header ≡ HEADER) (bounded : limit < 2 ^ 64)
+    (begins : IsTrue tells → take HEADER old.seen ≡ header) (long : FRESH < length old.seen) (within : length old.seen ≤ limit) where
+  pub walk_cause : {mid : Standing} (new : Standing) (window : Window) → Quiet old mid → (IsTrue tells → Shows mid.seen window)
+      → (cause : JournalFault) → WalkCause tells window mid new cause → OpenCause tells header limit old new cause
+  walk_cause new window quiet shows fault.Memory given = tt
+  walk_cause new window quiet shows fault.Disk given = omega (arith, quiet.leaves.time.counted, given)
+  walk_cause new window quiet shows (fault.Damaged place) given = λ told.
       let P : List ℕ → Type 0 = λ f. BreaksAt f place in
-      breaks_listed header (size told) limit bounded file place (subst P same (given told (shows told))) (begins told) long within
-  walk_cause file' window before mid now same later shows (fault.Full need most) given = given
+      breaks_listed header (size told) limit bounded old.seen place (subst P quiet.same (given told (shows told))) (begins told) long within
+  walk_cause new window quiet shows (fault.Full need most) given = given

@@ -77,23 +77,23 @@ module _ (header : List ℕ) (size : length header ≡ HEADER) (read : List (Lis
     left_size : (left : List (List ℕ)) → file ≡ at_rest header (read ++ left) → gate ≡ place + length (frames left)
     left_size left is = omega (arith, ends, stands, ap length is, length-at_rest left)
 
-    pub next_few : (left : List (List ℕ)) (out : List ℕ) → file ≡ at_rest header (read ++ left) → gate - place < 9 → NextIs read left place out false
-    next_few [] out is few = refl
-    next_few (payload ∷ others) out is few = absurd (omega (arith, few, left_size (payload ∷ others) is, length-frames_cons payload others))
+    pub next_few : (left : List (List ℕ)) (old out : List ℕ) → file ≡ at_rest header (read ++ left) → gate - place < 9 → NextIs read left old place out false
+    next_few [] old out is few = refl
+    next_few (payload ∷ others) old out is few = absurd (omega (arith, few, left_size (payload ∷ others) is, length-frames_cons payload others))
 
     module _ (bytes : List ℕ) (count : ℕ) (bounded : gate < 2 ^ 64) (are : bytes ≡ take 8 (drop (place + 1) file)) (number : count ≡ from_le_bytes w64 bytes) where
-      sized : (payload : List ℕ) (others : List (List ℕ)) → file ≡ at_rest header (read ++ payload ∷ others) → count ≡ length payload
+      pub sized : (payload : List ℕ) (others : List (List ℕ)) → file ≡ at_rest header (read ++ payload ∷ others) → count ≡ length payload
       sized payload others is =
           size_read payload others file bytes place count is stands (omega (arith, bounded, left_size (payload ∷ others) is, length-frames_cons payload others)) are number
 
-      pub next_long : (left : List (List ℕ)) (out : List ℕ) → file ≡ at_rest header (read ++ left) → 9 ≤ gate - place → gate - place - 9 < count → NextIs read left place out false
-      next_long [] out is enough long = refl
-      next_long (payload ∷ others) out is enough long =
+      pub next_long : (left : List (List ℕ)) (old out : List ℕ) → file ≡ at_rest header (read ++ left) → 9 ≤ gate - place → gate - place - 9 < count → NextIs read left old place out false
+      next_long [] old out is enough long = refl
+      next_long (payload ∷ others) old out is enough long =
           absurd (omega (arith, enough, long, sized payload others is, left_size (payload ∷ others) is, length-frames_cons payload others))
 
-      pub next_read : (left : List (List ℕ)) (out : List ℕ) → file ≡ at_rest header (read ++ left) → 9 ≤ gate - place → out ≡ take count (drop (place + 9) file)
-          → NextIs read left (place + (9 + count)) out true
-      next_read [] out is enough reads = absurd (omega (arith, enough, left_size [] is))
-      next_read (payload ∷ others) out is enough reads =
+      pub next_read : (left : List (List ℕ)) (old out : List ℕ) → file ≡ at_rest header (read ++ left) → 9 ≤ gate - place → out ≡ old ++ take count (drop (place + 9) file)
+          → NextIs read left old (place + (9 + count)) out true
+      next_read [] old out is enough reads = absurd (omega (arith, enough, left_size [] is))
+      next_read (payload ∷ others) old out is enough reads =
           let same = sized payload others is in
-          (refl, reads ∙ payload_read payload others file place count is stands same, omega (arith, stands, same, gate_both (payload ∷ []), length-frames_cons payload []))
+          (refl, reads ∙ ap (λ l. old ++ l) (payload_read payload others file place count is stands same), omega (arith, stands, same, gate_both (payload ∷ []), length-frames_cons payload []))

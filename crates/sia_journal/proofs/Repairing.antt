@@ -1,18 +1,19 @@
 -- What an opening leaves.
-use Rattle.std.proofs.Common.{◌≡◌, ◌≢◌, inl, inr, ℕ, ◌+◌, ◌-◌, ◌^◌, ◌<◌, ◌≤◌, List, [], ◌∷◌, ◌++◌, length, take, drop, get_or, Result, Ok, Err, refl, sym, ap, subst, ◌∙◌, append_assoc, length-append, arith}
+use Rattle.std.proofs.Common.{◌≡◌, ◌≢◌, inl, inr, ℕ, ◌+◌, ◌^◌, ◌<◌, ◌≤◌, List, [], ◌∷◌, ◌++◌, length, take, drop, get_or, Result, Ok, Err, refl, sym, ap, subst, ◌∙◌, append_assoc, length-append, arith}
 use Rattle.std.specs.Result.{result_unwrap_or}
-use Rattle.std.proofs.lemmas.List.{append_cancel_left, take_at, take-append-drop, length-take, nil_from_length}
+use Rattle.std.proofs.lemmas.List.{append_cancel_left, take_at, take-append-drop, nil_from_length}
 use Rattle.std.proofs.lemmas.Bool.{cases_eq}
 use Rattle.sia_encoding.specs.Spelling.{spelled_bytes}
-use Rattle.sia_edge.specs.Disk.{Torn, Shortened, overwritten, Only, Follows}
+use Rattle.sia_edge.specs.Disk.{Standing, Torn, Shortened, overwritten, IsSettled, EachImage, Changes, Leaves}
+use Rattle.sia_edge.proofs.Runs.{weaken, step_of_only}
 use Rattle.sia_journal.specs.declared.scan.Last.{Last}
-use Rattle.sia_journal.specs.Listed.{HEADER, FRESH, frames, file_of, listed}
+use Rattle.sia_journal.specs.Listed.{HEADER, FRESH, IsFew, frames, file_of, listed}
 use Rattle.sia_journal.specs.Journal.{MidAppend}
 use Rattle.sia_journal.specs.Opening.{IsRepaired, IsFound, BreaksAt}
 use Rattle.sia_journal.proofs.Frames.{count_within}
 use Rattle.sia_journal.proofs.Listing.{length-file, listed_closed, listed_broken, file_push}
 use Rattle.sia_journal.proofs.Tearing.{torn_within, written_within, written_at_end, shortened_behind}
-use Rattle.sia_journal.proofs.Appending.{step_of_only, in_two}
+use Rattle.sia_journal.proofs.Appending.{in_two}
 
 -- the repair of an end
 
@@ -26,11 +27,11 @@ module _ (front behind : List ℕ) (place gate : ℕ) (size : length front ≡ p
   closed_size : length (front ++ 0 ∷ []) ≡ place + 1
   closed_size = omega (arith, size, length-append front (0 ∷ []))
 
-  cut_torn : (file : List ℕ) → Shortened (place + 1) (front ++ 0 ∷ behind) file → file ≡ front ++ 0 ∷ take (length file - (place + 1)) behind
+  cut_torn : (file : List ℕ) → Shortened (place + 1) (front ++ 0 ∷ behind) file → IsRepaired front gate behind file
   cut_torn file short =
       let P : List ℕ → Type 0 = λ f. Shortened (place + 1) f file in
-      shortened_behind (front ++ 0 ∷ []) (place + 1) closed_size behind file (subst P (closed_two behind) short)
-      ∙ sym (closed_two (take (length file - (place + 1)) behind))
+      let cut = shortened_behind (front ++ 0 ∷ []) (place + 1) closed_size behind file (subst P (closed_two behind) short) in
+      inr (drop (place + 1) file, cut.0, cut.1 ∙ sym (closed_two (drop (place + 1) file)))
 
   pub cut_done : take (place + 1) (front ++ 0 ∷ behind) ≡ front ++ 0 ∷ []
   cut_done = ap (take (place + 1)) (closed_two behind) ∙ take_at (front ++ 0 ∷ []) behind (place + 1) closed_size
@@ -41,17 +42,17 @@ module _ (front behind : List ℕ) (place gate : ℕ) (size : length front ≡ p
   pub now_closed : (seen next : List ℕ) → seen ≡ was → next ≡ overwritten seen place (0 ∷ []) → next ≡ front ++ 0 ∷ behind
   now_closed seen next is wrote = wrote ∙ ap (λ f. overwritten f place (0 ∷ [])) is ∙ written_within front place size gate behind 0
 
-  pub cut_leaves : {old new : List ℕ → Type 0} (seen : List ℕ) → seen ≡ front ++ 0 ∷ behind → Only seen old → Follows (Shortened (place + 1)) old new
-      → (file : List ℕ) → new file → IsRepaired front gate behind file
-  cut_leaves seen is only follows file left =
+  pub cut_leaves : {old new : Standing} → old.seen ≡ front ++ 0 ∷ behind → IsSettled old → Changes (Shortened (place + 1)) old new
+      → Leaves (IsRepaired front gate behind) old new
+  cut_leaves is only changes = weaken (step_of_only only changes) (λ file short.
       let P : List ℕ → Type 0 = λ f. Shortened (place + 1) f file in
-      inr (length file - (place + 1), cut_torn file (subst P is (step_of_only only follows file left)))
+      cut_torn file (subst P is short))
 
-  pub gate_leaves : {old new : List ℕ → Type 0} (seen : List ℕ) → seen ≡ was → gate ≢ 0 → Only seen old → Follows (Torn place 1) old new
-      → (file : List ℕ) → new file → IsRepaired front gate behind file
-  gate_leaves seen is other only follows file left =
+  pub gate_leaves : {old new : Standing} → old.seen ≡ was → gate ≢ 0 → IsSettled old → Changes (Torn place 1) old new
+      → Leaves (IsRepaired front gate behind) old new
+  gate_leaves is other only changes = weaken (step_of_only only changes) (λ file torn.
       let P : List ℕ → Type 0 = λ f. Torn place 1 f file in
-      inl (get_or file place 0, other, torn_within front place size gate behind file (subst P is (step_of_only only follows file left)))
+      inl (get_or file place 0, other, torn_within front place size gate behind file (subst P is torn)))
 
 -- what was found is what was appended
 
@@ -121,11 +122,11 @@ module _ (header : List ℕ) (size : length header ≡ HEADER) (limit : ℕ) (bo
     )
     shorter file' (inr cut) = omega (
       arith,
-      ap length cut.1,
+      ap length cut.2,
       ap length (is ∙ in_two header found (gate ∷ behind)),
-      length-append (header ++ frames found) (0 ∷ take cut.0 behind),
+      length-append (header ++ frames found) (0 ∷ cut.0),
       length-append (header ++ frames found) (gate ∷ behind),
-      length-take cut.0 behind,
+      cut.1,
     )
 
     -- a repair of such a file is such a file
@@ -138,8 +139,8 @@ module _ (header : List ℕ) (size : length header ≡ HEADER) (limit : ℕ) (bo
           | inl torn ↦ absurd (torn.1 same.1)
           | inr cut ↦ inr (inl (record {
             within = omega (arith, within, shorter file' (inr cut));
-            behind = take cut.0 behind;
-            is = cut.1 ∙ sym (in_two header found (0 ∷ take cut.0 behind)) ∙ ap (λ r. file_of header r (0 ∷ take cut.0 behind)) same.0;
+            behind = cut.0;
+            is = cut.2 ∙ sym (in_two header found (0 ∷ cut.0)) ∙ ap (λ r. file_of header r (0 ∷ cut.0)) same.0;
           }))
         ]
     repair_mid long (inr (inr staged)) file' repaired = elim (cases_eq staged.gate 1) [
@@ -151,8 +152,8 @@ module _ (header : List ℕ) (size : length header ≡ HEADER) (limit : ℕ) (bo
           elim repaired [
             | inl torn ↦ absurd (torn.1 same.1)
             | inr cut ↦
-                let none : take cut.0 behind ≡ [] = nil_from_length (take cut.0 behind) (omega (arith, length-take cut.0 behind, ap length same.2)) in
-                let is' : file' ≡ file = cut.1 ∙ sym (in_two header found (0 ∷ take cut.0 behind)) ∙ ap (λ l. file_of header found (0 ∷ l)) none
+                let none : cut.0 ≡ [] = nil_from_length cut.0 (omega (arith, cut.1, ap length same.2)) in
+                let is' : file' ≡ file = cut.2 ∙ sym (in_two header found (0 ∷ cut.0)) ∙ ap (λ l. file_of header found (0 ∷ l)) none
                 ∙ ap (λ r. file_of header r (0 ∷ [])) same.0 ∙ sym whole in
                 inr (inr (record { within = omega (arith, within, shorter file' (inr cut)); gate = staged.gate; is = is' ∙ staged.is }))
           ]
@@ -166,25 +167,19 @@ module _ (header : List ℕ) (size : length header ≡ HEADER) (limit : ℕ) (bo
             }))
             | inr cut ↦ inr (inl (record {
               within = omega (arith, within, shorter file' (inr cut));
-              behind = take cut.0 behind;
-              is = cut.1 ∙ sym (in_two header found (0 ∷ take cut.0 behind)) ∙ ap (λ r. file_of header r (0 ∷ take cut.0 behind)) same.0;
+              behind = cut.0;
+              is = cut.2 ∙ sym (in_two header found (0 ∷ cut.0)) ∙ ap (λ r. file_of header r (0 ∷ cut.0)) same.0;
             }))
           ]
     ]
 
 -- few bytes stay few
 
-pub few_cut : {old new : List ℕ → Type 0} (len : ℕ) → Follows (Shortened len) old new → ((file : List ℕ) → old file → length file ≤ FRESH)
-    → (file : List ℕ) → new file → length file ≤ FRESH
-few_cut len follows few file left =
-    let from = follows file left in
-    omega (arith, few from.0 from.1, ap length from.2.front, length-take (length file) from.0)
+pub few_cut : {old new : Standing} (len : ℕ) → EachImage IsFew old → Changes (Shortened len) old new → Leaves IsFew old new
+few_cut len few changes = weaken changes (λ file from. omega (arith, few from.0 from.1, from.2.no_longer))
 
-pub few_written : {old new : List ℕ → Type 0} (count : ℕ) → count ≤ FRESH → Follows (Torn 0 count) old new → ((file : List ℕ) → old file → length file ≤ FRESH)
-    → (file : List ℕ) → new file → length file ≤ FRESH
-few_written count small follows few file left =
-    let from = follows file left in
-    omega (arith, small, few from.0 from.1, from.2.no_longer)
+pub few_written : {old new : Standing} (count : ℕ) → count ≤ FRESH → EachImage IsFew old → Changes (Torn 0 count) old new → Leaves IsFew old new
+few_written count small few changes = weaken changes (λ file from. omega (arith, small, few from.0 from.1, from.2.no_longer))
 
 -- the file of no records, written
 pub fresh_written : (before first last file : List ℕ) → first ≡ take 0 before → last ≡ overwritten first 0 file → last ≡ file

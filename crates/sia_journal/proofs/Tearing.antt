@@ -1,7 +1,6 @@
 -- What writes and cuts leave of a file, whole or cut short by a crash.
-use Rattle.std.proofs.Common.{◌≡◌, ℕ, ◌+◌, ◌-◌, min, List, [], ◌∷◌, ◌++◌, length, take, drop, get_or, sym, ap, ◌∙◌, append_assoc, length-append, arith}
-use Rattle.std.proofs.lemmas.List.{append-nil, take_at, drop_at, take_all, drop_all, drop_more, take-append-drop}
-use Rattle.std.proofs.Math.Seq.{take-append-add}
+use Rattle.std.proofs.Common.{◌≡◌, ℕ, ◌+◌, ◌≤◌, min, List, [], ◌∷◌, ◌++◌, length, take, drop, get_or, sym, ap, ◌∙◌, append_assoc, length-append, arith}
+use Rattle.std.proofs.lemmas.List.{append-nil, take_at, drop_at, take_all, drop_all, drop_more, length-drop, take-append-drop}
 use Rattle.sia_edge.specs.Disk.{Torn, Shortened, overwritten}
 
 -- a write at the end
@@ -41,8 +40,10 @@ module _ (front : List ℕ) (place : ℕ) (size : length front ≡ place) where
         ∙ append_assoc front (byte ∷ []) behind
 
   -- a cut
-  pub shortened_behind : (behind file : List ℕ) → Shortened place (front ++ behind) file → file ≡ front ++ take (length file - place) behind
+  pub shortened_behind : (behind file : List ℕ) → Shortened place (front ++ behind) file
+      → (length (drop place file) ≤ length behind) × (file ≡ front ++ drop place file)
   shortened_behind behind file short =
       let sizes = length-append front behind in
-      let long : length front + (length file - place) ≡ length file = omega (arith, size, sizes, short.no_shorter) in
-      short.front ∙ ap (λ k. take k (front ++ behind)) (sym long) ∙ take-append-add front behind (length file - place)
+      let within : min place (length (front ++ behind)) ≡ place = omega (arith, size, sizes) in
+      let first : take place file ≡ front = ap (λ k. take k file) (sym within) ∙ short.front ∙ take_at front behind place size in
+      (omega (arith, size, sizes, short.no_longer, length-drop place file), sym (take-append-drop place file) ∙ ap (λ l. l ++ drop place file) first)

@@ -4,7 +4,7 @@ use Rattle.std.proofs.lemmas.List.{append-nil, length-drop, drop_more, drop_all,
 use Rattle.std.proofs.lemmas.List.Concat.{flat_map-append}
 use Rattle.std.specs.Int.{w64, from_le_bytes}
 use Rattle.sia_encoding.specs.Spelling.{spelled_bytes}
-use Rattle.sia_edge.specs.Disk.{Quiet, Earlier}
+use Rattle.sia_edge.specs.Disk.{Standing, Quiet}
 use Rattle.sia_edge.proofs.Runs.{quiet_start, quiet_on}
 use Rattle.sia_journal.specs.declared.window.Window.{Window}
 use Rattle.sia_journal.specs.Listed.{HEADER, frame, frames, place_after}
@@ -48,13 +48,12 @@ window_part file bytes base at count shows begins within =
     ∙ ap (λ n. take count (drop n file)) place
 
 -- how far the walk has come
-pub record Walked {D : Type 0} (tells : Bool) (seen : D → List ℕ) (moment : D → ℕ) (since : D → ℕ → List ℕ → Type 0) (faults : D → ℕ) (first now : D) (window window' : Window) (place end : ℕ) : Type 0 where
+pub record Walked (tells : Bool) (first now : Standing) (window window' : Window) (place end : ℕ) : Type 0 where
   pub begins : 16 ≤ place
   pub within : place ≤ end
-  pub later : faults first ≤ faults now
-  pub quiet : Quiet seen moment since first now
-  pub shows : IsTrue tells → Shows (seen first) window → Shows (seen first) window'
-  pub walked : IsTrue tells → Shows (seen first) window → (records : List (List ℕ)) × (drop HEADER (seen first) ≡ frames records ++ drop place (seen first)) × (place ≡ place_after records)
+  pub quiet : Quiet first now
+  pub shows : IsTrue tells → Shows first.seen window → Shows first.seen window'
+  pub walked : IsTrue tells → Shows first.seen window → (records : List (List ℕ)) × (drop HEADER first.seen ≡ frames records ++ drop place first.seen) × (place ≡ place_after records)
 
 -- the gate that was read
 pub gate_read : (file bytes : List ℕ) (place : ℕ) → place < length file → bytes ≡ take 1 (drop place file) → drop place file ≡ get_or bytes 0 0 ∷ drop (place + 1) file
@@ -84,98 +83,92 @@ shows_on tells file mid one two three same before step = λ told was.
     let Q : List ℕ → Type 0 = λ f. Shows f three in
     subst Q same (step told (subst P (sym same) (before told was)))
 
-module _ {D : Type 0} (tells : Bool) (seen : D → List ℕ) (moment : D → ℕ) (since : D → ℕ → List ℕ → Type 0) (faults : D → ℕ)
-    (earlier : (disk : D) → Earlier (moment disk) (since disk)) (first : D) (window : Window) (end : ℕ) where
-  abbrev Way : D → Window → ℕ → Type 0
-  Way now window' place = Walked tells seen moment since faults first now window window' place end
-
-  pub sets_out : 17 < end → Way first window 16
+module _ (tells : Bool) {first : Standing} {window : Window} {end : ℕ} where
+  pub sets_out : 17 < end → Walked tells first first window window 16 end
   sets_out long = record {
     begins = omega arith;
     within = omega (arith, long);
-    later = omega arith;
     quiet = quiet_start first;
     shows = λ told was. was;
     walked = λ told was. ([], refl, refl);
   }
 
   -- the gate that was read, in the file as it was
-  pub gate_is : (mid : D) (window' : Window) (place : ℕ) (bytes : List ℕ) → Way mid window' place → end ≡ length (seen first) → place < end
-      → (IsTrue tells → Shows (seen mid) window' → bytes ≡ take 1 (drop place (seen mid))) → IsTrue tells → Shows (seen first) window
-      → drop place (seen first) ≡ get_or bytes 0 0 ∷ drop (place + 1) (seen first)
-  gate_is mid window' place bytes way is within read told was =
+  pub gate_is : {mid : Standing} {window' : Window} {place : ℕ} {bytes : List ℕ} → Walked tells first mid window window' place end → end ≡ length first.seen → place < end
+      → (IsTrue tells → Shows mid.seen window' → bytes ≡ take 1 (drop place mid.seen)) → IsTrue tells → Shows first.seen window
+      → drop place first.seen ≡ get_or bytes 0 0 ∷ drop (place + 1) first.seen
+  gate_is {mid} {window'} {place} {bytes} way is within read told was =
       let P : List ℕ → Type 0 = λ f. Shows f window' in
       let shown = subst P (sym way.quiet.same) (way.shows told was) in
-      gate_read (seen first) bytes place (omega (arith, is, within)) (read told shown ∙ ap (λ f. take 1 (drop place f)) way.quiet.same)
+      gate_read first.seen bytes place (omega (arith, is, within)) (read told shown ∙ ap (λ f. take 1 (drop place f)) way.quiet.same)
 
-  pub goes_further : (mid after last : D) (window1 window2 window3 : Window) (place next : ℕ) (bytes : List ℕ) → Way mid window1 place → end ≡ length (seen first) → place < end
-      → (IsTrue tells → Shows (seen mid) window1 → bytes ≡ take 1 (drop place (seen mid))) → get_or bytes 0 0 ≡ 1
-      → ShowsOn tells (seen mid) (seen mid) window1 window2 → Quiet seen moment since mid after → faults mid ≤ faults after
-      → (IsTrue tells → Shows (seen after) window2 → FrameEnds (seen after) place (Some next)) → place + 9 ≤ next → next ≤ end
-      → ShowsOn tells (seen after) (seen after) window2 window3 → Quiet seen moment since after last → faults after ≤ faults last
-      → Way last window3 next
-  goes_further mid after last window1 window2 window3 place next bytes way is within read open_gate shows2 quiet2 later2 ends low high shows3 quiet3 later3 =
-      let same2 : seen after ≡ seen first = quiet2.same ∙ way.quiet.same in
-      let shown2 = shows_on tells (seen first) (seen mid) window window1 window2 way.quiet.same way.shows shows2 in
-      let quiet = quiet_on (quiet_on way.quiet (earlier mid) quiet2 (earlier after)) (earlier after) quiet3 (earlier last) in
+  pub goes_further : {mid after last : Standing} {window1 window3 : Window} (window2 : Window) {place next : ℕ} {bytes : List ℕ} → Walked tells first mid window window1 place end → end ≡ length first.seen → place < end
+      → (IsTrue tells → Shows mid.seen window1 → bytes ≡ take 1 (drop place mid.seen)) → get_or bytes 0 0 ≡ 1
+      → ShowsOn tells mid.seen mid.seen window1 window2 → Quiet mid after
+      → (IsTrue tells → Shows after.seen window2 → FrameEnds after.seen place (Some next)) → place + 9 ≤ next → next ≤ end
+      → ShowsOn tells after.seen after.seen window2 window3 → Quiet after last
+      → Walked tells first last window window3 next end
+  goes_further {mid} {after} {last} {window1} {window3} window2 {place} {next} {bytes} way is within read open_gate shows2 quiet2 ends low high shows3 quiet3 =
+      let same2 : after.seen ≡ first.seen = quiet2.same ∙ way.quiet.same in
+      let shown2 = shows_on tells first.seen mid.seen window window1 window2 way.quiet.same way.shows shows2 in
+      let quiet = quiet_on (quiet_on way.quiet quiet2) quiet3 in
       record {
         begins = omega (arith, way.begins, low);
         within = high;
-        later = omega (arith, way.later, later2, later3);
         quiet = quiet;
-        shows = shows_on tells (seen first) (seen after) window window2 window3 same2 shown2 shows3;
+        shows = shows_on tells first.seen after.seen window window2 window3 same2 shown2 shows3;
         walked = λ told was.
             let walked = way.walked told was in
             let P : List ℕ → Type 0 = λ f. Shows f window2 in
             let Q : List ℕ → Type 0 = λ f. FrameEnds f place (Some next) in
             let frame = subst Q same2 (ends told (subst P (sym same2) (shown2 told was))) in
-            let gate = gate_is mid window1 place bytes way is within read told was ∙ ap (λ g. g ∷ drop (place + 1) (seen first)) open_gate in
-            let more = frame_more (seen first) place next walked.0 frame.0 walked.1 walked.2 gate frame.1 frame.2 in
+            let gate = gate_is way is within read told was ∙ ap (λ g. g ∷ drop (place + 1) first.seen) open_gate in
+            let more = frame_more first.seen place next walked.0 frame.0 walked.1 walked.2 gate frame.1 frame.2 in
             (walked.0 ++ frame.0 ∷ [], more.0, more.1);
       }
 
-  pub last_found : (mid : D) (window' : Window) (place gate : ℕ) (bytes : List ℕ) → Way mid window' place → end ≡ length (seen first) → place < end
-      → (IsTrue tells → Shows (seen mid) window' → bytes ≡ take 1 (drop place (seen mid))) → gate ≡ get_or bytes 0 0 → gate ≢ 1
-      → IsTrue tells → Shows (seen first) window → IsLast (seen first) (record { place = place; gate = gate })
-  last_found mid window' place gate bytes way is within read gate_of shut told was =
+  pub last_found : {mid : Standing} {window' : Window} {place gate : ℕ} {bytes : List ℕ} → Walked tells first mid window window' place end → end ≡ length first.seen → place < end
+      → (IsTrue tells → Shows mid.seen window' → bytes ≡ take 1 (drop place mid.seen)) → gate ≡ get_or bytes 0 0 → gate ≢ 1
+      → IsTrue tells → Shows first.seen window → IsLast first.seen (record { place = place; gate = gate })
+  last_found {mid} {window'} {place} {gate} {bytes} way is within read gate_of shut told was =
       let walked = way.walked told was in
       record {
         records = walked.0;
-        behind = drop (place + 1) (seen first);
-        is = walked.1 ∙ ap (λ l. frames walked.0 ++ l) (gate_is mid window' place bytes way is within read told was ∙ ap (λ g. g ∷ drop (place + 1) (seen first)) (sym gate_of));
+        behind = drop (place + 1) first.seen;
+        is = walked.1 ∙ ap (λ l. frames walked.0 ++ l) (gate_is way is within read told was ∙ ap (λ g. g ∷ drop (place + 1) first.seen) (sym gate_of));
         stands = walked.2;
         shut = shut;
       }
 
-  pub breaks_off : (mid after : D) (window1 window2 : Window) (place : ℕ) (bytes : List ℕ) → Way mid window1 place → end ≡ length (seen first) → place < end
-      → (IsTrue tells → Shows (seen mid) window1 → bytes ≡ take 1 (drop place (seen mid))) → get_or bytes 0 0 ≡ 1
-      → ShowsOn tells (seen mid) (seen mid) window1 window2 → seen after ≡ seen mid
-      → (IsTrue tells → Shows (seen after) window2 → FrameEnds (seen after) place None)
-      → IsTrue tells → Shows (seen first) window → BreaksAt (seen first) place
-  breaks_off mid after window1 window2 place bytes way is within read open_gate shows2 same ends told was =
-      let same2 : seen after ≡ seen first = same ∙ way.quiet.same in
-      let shown2 = shows_on tells (seen first) (seen mid) window window1 window2 way.quiet.same way.shows shows2 in
+  pub breaks_off : {mid after : Standing} {window1 : Window} (window2 : Window) {place : ℕ} {bytes : List ℕ} → Walked tells first mid window window1 place end → end ≡ length first.seen → place < end
+      → (IsTrue tells → Shows mid.seen window1 → bytes ≡ take 1 (drop place mid.seen)) → get_or bytes 0 0 ≡ 1
+      → ShowsOn tells mid.seen mid.seen window1 window2 → Quiet mid after
+      → (IsTrue tells → Shows after.seen window2 → FrameEnds after.seen place None)
+      → IsTrue tells → Shows first.seen window → BreaksAt first.seen place
+  breaks_off {mid} {after} {window1} window2 {place} {bytes} way is within read open_gate shows2 quiet ends told was =
+      let same2 : after.seen ≡ first.seen = quiet.same ∙ way.quiet.same in
+      let shown2 = shows_on tells first.seen mid.seen window window1 window2 way.quiet.same way.shows shows2 in
       let walked = way.walked told was in
       let P : List ℕ → Type 0 = λ f. Shows f window2 in
       let Q : List ℕ → Type 0 = λ f. FrameEnds f place None in
       let broken = subst Q same2 (ends told (subst P (sym same2) (shown2 told was))) in
-      let gate = gate_is mid window1 place bytes way is within read told was ∙ ap (λ g. g ∷ drop (place + 1) (seen first)) open_gate in
+      let gate = gate_is way is within read told was ∙ ap (λ g. g ∷ drop (place + 1) first.seen) open_gate in
       record {
         records = walked.0;
-        behind = drop place (seen first);
+        behind = drop place first.seen;
         is = walked.1;
         stands = walked.2;
-        broken = inr (drop (place + 1) (seen first), gate, broken);
+        broken = inr (drop (place + 1) first.seen, gate, broken);
       }
 
-  pub ends_open : (mid : D) (window' : Window) (place : ℕ) → Way mid window' place → end ≡ length (seen first) → end ≤ place
-      → IsTrue tells → Shows (seen first) window → BreaksAt (seen first) place
-  ends_open mid window' place way is past told was =
+  pub ends_open : {mid : Standing} {window' : Window} {place : ℕ} → Walked tells first mid window window' place end → end ≡ length first.seen → end ≤ place
+      → IsTrue tells → Shows first.seen window → BreaksAt first.seen place
+  ends_open {mid} {window'} {place} way is past told was =
       let walked = way.walked told was in
       record {
         records = walked.0;
-        behind = drop place (seen first);
+        behind = drop place first.seen;
         is = walked.1;
         stands = walked.2;
-        broken = inl (drop_all place (seen first) (omega (arith, is, past)));
+        broken = inl (drop_all place first.seen (omega (arith, is, past)));
       }

@@ -1,4 +1,4 @@
--- What a read that failed is to the caller of a journal.
+-- What a read that failed is to the caller of a journal: the error of this product's own calls.
 use Rattle.sia_edge.specs.declared.read_disk.ReadFault.{ReadFault}
 use Rattle.sia_edge.specs.declared.read_disk.ReadFault.TheVariants as read
 use Rattle.sia_journal.specs.declared.fault.JournalFault.{JournalFault}

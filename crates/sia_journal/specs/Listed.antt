@@ -1,6 +1,7 @@
 -- What the bytes of a journal stand for: a header of 16 bytes, then frames, then one gate byte that isn't 1. A frame is
--- the gate byte 1, the length of a payload in 8 bytes, the lowest first, and the payload.
-use Rattle.std.specs.Prelude.{◌≡◌, ℕ, zero, suc, ◌+◌, ◌-◌, ◌==◌, nat_lt, List, [], ◌∷◌, ◌++◌, length, take, drop, if◌then◌else◌, Option, Some, None, Result, Ok, Err}
+-- the gate byte 1, the length of a payload in 8 bytes, the lowest first, and the payload. The form is this product's own; a
+-- payload is spelled as siad's encoding spells a byte slice.
+use Rattle.std.specs.Prelude.{◌≡◌, ℕ, zero, suc, ◌+◌, ◌-◌, ◌≤◌, ◌==◌, nat_lt, List, [], ◌∷◌, ◌++◌, length, take, drop, if◌then◌else◌, Option, Some, None, Result, Ok, Err}
 use Rattle.std.specs.List.{flat_map}
 use Rattle.std.specs.Int.{w64, from_le_bytes}
 use Rattle.std.specs.Str.{bytes_eq}
@@ -13,6 +14,10 @@ HEADER = 16
 -- how many bytes a journal of no records has: its header and the last gate
 abbrev pub FRESH : ℕ
 FRESH = 17
+
+-- a file of so few bytes that it lists nothing
+abbrev pub IsFew : List ℕ → Type 0
+IsFew file = length file ≤ FRESH
 
 -- a record in the file
 abbrev pub frame : List ℕ → List ℕ

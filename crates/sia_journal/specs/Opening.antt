@@ -1,12 +1,12 @@
--- What an opening finds and repairs.
-use Rattle.std.specs.Prelude.{◌≡◌, ◌≢◌, ◌⊎◌, ℕ, ◌+◌, ◌≤◌, Bool, IsTrue, List, [], ◌∷◌, ◌++◌, length, take, drop, Option, None, Some}
+-- What an opening of a journal finds and repairs, in the form of this product's own file (Listed.antt).
+use Rattle.std.specs.Prelude.{◌≡◌, ◌≢◌, ◌⊎◌, ℕ, ◌+◌, ◌<◌, ◌≤◌, Bool, IsTrue, List, [], ◌∷◌, ◌++◌, length, take, drop, Option, None, Some}
 use Rattle.sia_encoding.specs.Spelling.{spelled_bytes}
-use Rattle.sia_edge.specs.Edge.{Rose}
+use Rattle.sia_edge.specs.Disk.{Standing, Faulted, images_of}
 use Rattle.sia_journal.specs.declared.fault.JournalFault.{JournalFault}
 use Rattle.sia_journal.specs.declared.fault.JournalFault.TheVariants as fault
 use Rattle.sia_journal.specs.declared.window.Window.{Window}
 use Rattle.sia_journal.specs.declared.scan.Last.{Last}
-use Rattle.sia_journal.specs.Listed.{HEADER, frames, place_after, split_payload}
+use Rattle.sia_journal.specs.Listed.{HEADER, FRESH, IsFew, frames, place_after, split_payload}
 
 -- a window lies within a file of this length
 abbrev pub Within : ℕ → Window → Type 0
@@ -48,13 +48,27 @@ pub record IsFound (header file : List ℕ) (last : Last) : Type 0 where
   pub ends : IsLast file last
 
 -- why a walk along the gates answers a fault
-abbrev pub WalkCause : Bool → List ℕ → Window → ℕ → ℕ → JournalFault → Type 0
-WalkCause tells file window before now fault.Memory = Unit {0}
-WalkCause tells file window before now fault.Disk = Rose before now
-WalkCause tells file window before now (fault.Damaged place) = IsTrue tells → Shows file window → BreaksAt file place
-WalkCause tells file window before now (fault.Full need limit) = ⊥
+abbrev pub WalkCause : Bool → Window → Standing → Standing → JournalFault → Type 0
+WalkCause tells window old new fault.Memory = Unit {0}
+WalkCause tells window old new fault.Disk = Faulted old new
+WalkCause tells window old new (fault.Damaged place) = IsTrue tells → Shows old.seen window → BreaksAt old.seen place
+WalkCause tells window old new (fault.Full need limit) = ⊥
 
--- what may be left of a file while its end behind `front` is repaired, where a gate and other bytes stand
+-- What may be left of a file while its end behind `front` is repaired, where a gate and other bytes stand: the gate torn, or
+-- the gate closed and any bytes behind it, no more than there were.
 abbrev pub IsRepaired : List ℕ → ℕ → List ℕ → List ℕ → Type 0
 IsRepaired front gate behind file =
-    ((byte : ℕ) × (gate ≢ 0) × (file ≡ front ++ byte ∷ behind)) ⊎ ((count : ℕ) × (file ≡ front ++ 0 ∷ take count behind))
+    ((byte : ℕ) × (gate ≢ 0) × (file ≡ front ++ byte ∷ behind))
+    ⊎ ((rest : List ℕ) × (length rest ≤ length behind) × (file ≡ front ++ 0 ∷ rest))
+
+-- a file that is being repaired at its end, whose last gate was found
+pub record IsMended (header : List ℕ) (limit : ℕ) (old file : List ℕ) : Type 0 where
+  pub last : Last
+  pub found : IsFound header old last
+  pub long : FRESH < length old
+  pub within : length old ≤ limit
+  pub repaired : IsRepaired (header ++ frames found.ends.records) last.gate found.ends.behind file
+
+-- What an opening may leave of a disk: an image that was there, few bytes where a read gave few, or a repair of the end.
+abbrev pub IsReopened : List ℕ → ℕ → Standing → List ℕ → Type 0
+IsReopened header limit old file = images_of old file ⊎ ((IsFew old.seen × IsFew file) ⊎ IsMended header limit old.seen file)

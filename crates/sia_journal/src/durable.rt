@@ -1,6 +1,6 @@
 //! Writes and cuts that are on the disk once they are done.
-ghost use Rattle.std.specs.Prelude.{◌≡◌, ◌+◌, ◌≤◌, ◌∷◌, [], max, take, IsTrue, OnOk, length};
-ghost use Rattle.sia_edge.specs.Disk.{Passes, Follows, Torn, Shortened, Only, overwritten};
+ghost use Rattle.std.specs.Prelude.{◌≡◌, ◌+◌, ◌≤◌, ◌∷◌, [], max, take, IsTrue, IfErr, OnOk, length};
+ghost use Rattle.sia_edge.specs.Disk.{Changes, IsSettled, Torn, Shortened, overwritten};
 ghost use Rattle.sia_journal.specs.Journal.{DiskCause};
 
 use crate::fault::{JournalFault, done};
@@ -8,13 +8,12 @@ use sia_edge::Disk;
 
 /// Writes bytes at a place, and syncs.
 pub(crate) fn store<D: Disk>(disk: &mut D, at: u64, bytes: &[u8]) -> Result<(), JournalFault>
-    requires { at ≤ length (D.seen disk.old) }
-    ensures end { OnOk result (length (D.seen disk.new) ≡ max (length (D.seen disk.old)) (at + length bytes.now)) }
-    ensures kept { IsTrue D.tells → OnOk result (D.seen disk.new ≡ overwritten (D.seen disk.old) at bytes.now) }
-    ensures settled { OnOk result (Only (D.seen disk.new) (D.since disk.new (D.moment disk.new))) }
-    ensures images { Follows (Torn at (length bytes.now)) (D.since disk.old (D.moment disk.old)) (D.since disk.new (D.moment disk.old)) }
-    ensures time { Passes (D.moment disk.old) (D.moment disk.new) (D.since disk.old) (D.since disk.new) }
-    ensures cause { DiskCause (D.faults disk.old) (D.faults disk.new) result }
+    requires { at ≤ length (D.standing disk.old).seen }
+    ensures end { OnOk result (length (D.standing disk.new).seen ≡ max (length (D.standing disk.old).seen) (at + length bytes.now)) }
+    ensures kept { IsTrue D.tells → OnOk result ((D.standing disk.new).seen ≡ overwritten (D.standing disk.old).seen at bytes.now) }
+    ensures settled { OnOk result (IsSettled (D.standing disk.new)) }
+    ensures changes { Changes (Torn at (length bytes.now)) (D.standing disk.old) (D.standing disk.new) }
+    ensures cause { IfErr result (DiskCause (D.standing disk.old) (D.standing disk.new)) }
 {
     done(disk.write_at(at, bytes))?;
     done(disk.sync())
@@ -22,12 +21,11 @@ pub(crate) fn store<D: Disk>(disk: &mut D, at: u64, bytes: &[u8]) -> Result<(), 
 
 /// Cuts the disk to a length, and syncs.
 pub(crate) fn cut_to<D: Disk>(disk: &mut D, len: u64) -> Result<(), JournalFault>
-    requires { len ≤ length (D.seen disk.old) }
-    ensures kept { OnOk result (D.seen disk.new ≡ take len (D.seen disk.old)) }
-    ensures settled { OnOk result (Only (D.seen disk.new) (D.since disk.new (D.moment disk.new))) }
-    ensures images { Follows (Shortened len) (D.since disk.old (D.moment disk.old)) (D.since disk.new (D.moment disk.old)) }
-    ensures time { Passes (D.moment disk.old) (D.moment disk.new) (D.since disk.old) (D.since disk.new) }
-    ensures cause { DiskCause (D.faults disk.old) (D.faults disk.new) result }
+    requires { len ≤ length (D.standing disk.old).seen }
+    ensures kept { OnOk result ((D.standing disk.new).seen ≡ take len (D.standing disk.old).seen) }
+    ensures settled { OnOk result (IsSettled (D.standing disk.new)) }
+    ensures changes { Changes (Shortened len) (D.standing disk.old) (D.standing disk.new) }
+    ensures cause { IfErr result (DiskCause (D.standing disk.old) (D.standing disk.new)) }
 {
     done(disk.cut(len))?;
     done(disk.sync())

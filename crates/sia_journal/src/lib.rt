@@ -1,22 +1,35 @@
-//! The journal: a list of records in one file, to which records are appended, and that a crash at any moment leaves as the
+//! The journal: a list of records in one file, to which records are appended, and which a crash at any moment leaves as the
 //! list before or as that list with the new record.
 //!
-//! What a file lists is a definition on its bytes alone (specs/Listed.antt). Contracts speak of lists of payloads:
+//! The form of the file is this product's own (specs/Listed.antt): what it lists is a definition on its bytes alone. What a
+//! crash may leave is the model of `sia_edge`, which is that of POSIX's pwrite, ftruncate and fsync.
 //!
-//! - [`Journal::append`] takes no memory. After it was done every image that a crash may leave lists the new list; after the
-//!   disk failed every image since lists the old list or the new one ([`laws`]). `Full` comes exactly where the file would pass
-//!   the limit, and changes nothing.
-//! - [`Journal::open`] makes a fresh file of one of at most 17 bytes, and repairs the end of a longer one. Where it was done its
-//!   list is that of the file in every image. A crash during it leaves the list that it answers, or the one that differs by the
-//!   last record, whose append had failed before. `Memory` and `Damaged` leave the disk as it was.
-//! - [`Journal::read_next`] gives the payloads in order. At the end, and after an error, its place and what it reads into are
-//!   as before.
+//! ```
+//! let mut journal = Journal::open(alloc, disk, b"sia journal v1\0\0", limit)?;
+//! journal.append(&RecordBuf::new(alloc, payload)?)?;
+//! while journal.read_next(alloc, &mut place, &mut out)? { .. } // from FIRST_PLACE on
+//! ```
 //!
-//! Where the disk tells its bytes, `Damaged` comes only for a file that lists nothing but an error, and names its place. Such
-//! a file is never changed, and never opened: it is told as damaged wherever memory suffices and no call fails. `Disk` comes
-//! only where a call of the disk failed.
+//! # Promises
 //!
-//! It stands on `sia_edge` for the disk and its model of a crash, and on `sia_encoding` for `Blob` and the spelling of a payload.
+//! The disk is no one else's. What is said of payloads, images and `Damaged` is said where the disk tells its bytes.
+//!
+//! - [`Journal::append`] that is done leaves the new list in every image that a crash may leave. After a fault of the disk every
+//!   image since lists the old list or the new one, and so does what a read gives ([`laws::mid_append_lists`],
+//!   [`laws::after_append_lists`]). It takes no memory. `Full` comes exactly where the file would pass the limit, told or not,
+//!   and changes nothing; one that is done says how long the file is then, told or not.
+//! - [`Journal::open`] that is done holds the records that the file listed, in every image. A crash during it leaves the list that
+//!   it answers, or the one that differs by the last record, whose append had failed before; where every image had at most 17
+//!   bytes, every image since has. `Memory` and `Damaged` leave the disk as it was. A damaged file is never changed and never
+//!   opened: it is told as damaged, at its place, wherever memory suffices and no call fails.
+//! - [`Journal::read_next`] and [`Journal::read_next_onto`] give the payloads in order, from [`FIRST_PLACE`] on, and answer false
+//!   exactly at the end. At the end, and after an error, the place and what is read into are as before. The second takes no
+//!   memory where there is room.
+//! - [`JournalFault::Disk`] comes only where a call of the disk failed, and `Memory` never of an append.
+//!
+//! # Stands on
+//!
+//! `sia_edge` for the disk and its model of a crash, `sia_encoding` for `Blob` and the spelling of a payload.
 #![tactic(auto)]
 
 mod durable;
@@ -29,8 +42,5 @@ mod scan;
 mod window;
 
 pub use fault::JournalFault;
-pub use journal::Journal;
+pub use journal::{FIRST_PLACE, Journal};
 pub use record::RecordBuf;
-
-#[cfg(test)]
-mod tests;

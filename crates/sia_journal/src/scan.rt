@@ -2,11 +2,11 @@
 ghost use Rattle.std.specs.Prelude.{◌≡◌, ℕ, ◌+◌, ◌<◌, ◌≤◌, IsTrue, slice_index, IfOk, IfErr, IfSome, OnOk, length};
 ghost use Rattle.std.specs.Int.{w64, from_le_bytes};
 ghost use Rattle.sia_edge.specs.Disk.{Quiet};
-ghost use Rattle.sia_journal.specs.Listed.{listed};
 ghost use Rattle.sia_journal.specs.Journal.{ReadCause, OpenCause};
 ghost use Rattle.sia_journal.specs.Opening.{Shows, FrameEnds, IsLast, IsFound, WalkCause};
 
 use crate::fault::JournalFault;
+use crate::journal::FIRST_PLACE;
 use crate::window::Window;
 use sia_edge::Disk;
 use std::alloc::Global;
@@ -34,14 +34,13 @@ fn frame_end<D: Disk>(
     place: u64,
     end: u64,
 ) -> Result<Option<u64>, JournalFault>
-    requires end { end ≡ length (D.seen disk.old) }
+    requires end { end ≡ length (D.standing disk.old).seen }
     requires gate { place < end }
-    ensures frame { IsTrue D.tells → Shows (D.seen disk.old) window.old → IfOk result (FrameEnds (D.seen disk.old) place) }
+    ensures frame { IsTrue D.tells → Shows (D.standing disk.old).seen window.old → IfOk result (FrameEnds (D.standing disk.old).seen place) }
     ensures within { IfOk result (λ found. IfSome found (λ next. (place + 9 ≤ next) × (next ≤ end))) }
-    ensures shows { IsTrue D.tells → Shows (D.seen disk.old) window.old → OnOk result (Shows (D.seen disk.old) window.new) }
-    ensures quiet { Quiet D.seen D.moment D.since disk.old disk.new }
-    ensures cause { IfErr result (ReadCause (D.faults disk.old) (D.faults disk.new)) }
-    ensures later { D.faults disk.old ≤ D.faults disk.new }
+    ensures shows { IsTrue D.tells → Shows (D.standing disk.old).seen window.old → OnOk result (Shows (D.standing disk.old).seen window.new) }
+    ensures quiet { Quiet (D.standing disk.old) (D.standing disk.new) }
+    ensures cause { IfErr result (ReadCause (D.standing disk.old) (D.standing disk.new)) }
 {
     let left = end - place - 1;
     if left < 8 {
@@ -62,15 +61,14 @@ fn last_gate<D: Disk>(
     window: &mut Window,
     end: u64,
 ) -> Result<Last, JournalFault>
-    requires end { end ≡ length (D.seen disk.old) }
+    requires end { end ≡ length (D.standing disk.old).seen }
     requires long { 17 < end }
-    ensures last { IsTrue D.tells → Shows (D.seen disk.old) window.old → IfOk result (IsLast (D.seen disk.old)) }
+    ensures last { IsTrue D.tells → Shows (D.standing disk.old).seen window.old → IfOk result (IsLast (D.standing disk.old).seen) }
     ensures within { IfOk result (λ last. (16 ≤ last.place) × (last.place < end)) }
-    ensures quiet { Quiet D.seen D.moment D.since disk.old disk.new }
-    ensures cause { IfErr result (WalkCause D.tells (D.seen disk.old) window.old (D.faults disk.old) (D.faults disk.new)) }
-    ensures later { D.faults disk.old ≤ D.faults disk.new }
+    ensures quiet { Quiet (D.standing disk.old) (D.standing disk.new) }
+    ensures cause { IfErr result (WalkCause D.tells window.old (D.standing disk.old) (D.standing disk.new)) }
 {
-    let mut place: u64 = 16;
+    let mut place = FIRST_PLACE;
     while place < end {
         let bytes = window.array::<1, D>(alloc, disk, place)?;
         let gate = bytes[0];
@@ -93,12 +91,11 @@ pub(crate) fn find_last<D: Disk>(
     header: &[u8; 16],
     limit: u64,
 ) -> Result<Last, JournalFault>
-    requires { 17 < length (D.seen disk.old) }
-    ensures found { IsTrue D.tells → IfOk result (IsFound header.now (D.seen disk.old)) }
-    ensures within { IfOk result (λ last. (16 ≤ last.place) × (last.place < length (D.seen disk.old)) × (length (D.seen disk.old) ≤ limit)) }
-    ensures quiet { Quiet D.seen D.moment D.since disk.old disk.new }
-    ensures cause { IfErr result (OpenCause D.tells (D.faults disk.old) (D.faults disk.new) (listed header.now limit (D.seen disk.old))) }
-    ensures later { D.faults disk.old ≤ D.faults disk.new }
+    requires { 17 < length (D.standing disk.old).seen }
+    ensures found { IsTrue D.tells → IfOk result (IsFound header.now (D.standing disk.old).seen) }
+    ensures within { IfOk result (λ last. (16 ≤ last.place) × (last.place < length (D.standing disk.old).seen) × (length (D.standing disk.old).seen ≤ limit)) }
+    ensures quiet { Quiet (D.standing disk.old) (D.standing disk.new) }
+    ensures cause { IfErr result (OpenCause D.tells header.now limit (D.standing disk.old) (D.standing disk.new)) }
 {
     let end = disk.length();
     let mut window = Window::new(alloc);

@@ -34,14 +34,13 @@ impl Window {
 
     /// Reads the piece that begins at a place.
     fn fill<D: Disk>(&mut self, alloc: Global, disk: &mut D, at: u64) -> Result<(), JournalFault>
-        requires { at ≤ length (D.seen disk.old) }
-        ensures shows { IsTrue D.tells → OnOk result (Shows (D.seen disk.old) self.new) }
+        requires { at ≤ length (D.standing disk.old).seen }
+        ensures shows { IsTrue D.tells → OnOk result (Shows (D.standing disk.old).seen self.new) }
         ensures base { OnOk result (self.new.base ≡ at) }
-        ensures within { OnOk result (Within (length (D.seen disk.old)) self.new) }
-        ensures size { OnOk result ((count : ℕ) → count ≤ 65536 → at + count ≤ length (D.seen disk.old) → count ≤ length self.new.bytes) }
-        ensures quiet { Quiet D.seen D.moment D.since disk.old disk.new }
-        ensures cause { IfErr result (ReadCause (D.faults disk.old) (D.faults disk.new)) }
-        ensures later { D.faults disk.old ≤ D.faults disk.new }
+        ensures within { OnOk result (Within (length (D.standing disk.old).seen) self.new) }
+        ensures size { OnOk result ((count : ℕ) → count ≤ 65536 → at + count ≤ length (D.standing disk.old).seen → count ≤ length self.new.bytes) }
+        ensures quiet { Quiet (D.standing disk.old) (D.standing disk.new) }
+        ensures cause { IfErr result (ReadCause (D.standing disk.old) (D.standing disk.new)) }
     {
         let count = (disk.length() - at).min(PIECE);
         self.bytes.clear();
@@ -67,13 +66,12 @@ impl Window {
         count: u64,
     ) -> Result<(), JournalFault>
         requires small { count ≤ 65536 }
-        requires inside { at + count ≤ length (D.seen disk.old) }
-        ensures shows { IsTrue D.tells → Shows (D.seen disk.old) self.old → OnOk result (Shows (D.seen disk.old) self.new) }
+        requires inside { at + count ≤ length (D.standing disk.old).seen }
+        ensures shows { IsTrue D.tells → Shows (D.standing disk.old).seen self.old → OnOk result (Shows (D.standing disk.old).seen self.new) }
         ensures base { OnOk result (self.new.base ≤ at) }
         ensures holds { OnOk result (at - self.new.base + count ≤ length self.new.bytes) }
-        ensures quiet { Quiet D.seen D.moment D.since disk.old disk.new }
-        ensures cause { IfErr result (ReadCause (D.faults disk.old) (D.faults disk.new)) }
-        ensures later { D.faults disk.old ≤ D.faults disk.new }
+        ensures quiet { Quiet (D.standing disk.old) (D.standing disk.new) }
+        ensures cause { IfErr result (ReadCause (D.standing disk.old) (D.standing disk.new)) }
     {
         if self.holds(at, count) {
             return Ok(());
@@ -102,12 +100,11 @@ impl Window {
         at: u64,
     ) -> Result<[u8; N], JournalFault>
         requires small { N ≤ 65536 }
-        requires inside { at + N ≤ length (D.seen disk.old) }
-        ensures bytes { IsTrue D.tells → Shows (D.seen disk.old) self.old → IfOk result (λ bytes. bytes ≡ take N (drop at (D.seen disk.old))) }
-        ensures shows { IsTrue D.tells → Shows (D.seen disk.old) self.old → OnOk result (Shows (D.seen disk.old) self.new) }
-        ensures quiet { Quiet D.seen D.moment D.since disk.old disk.new }
-        ensures cause { IfErr result (ReadCause (D.faults disk.old) (D.faults disk.new)) }
-        ensures later { D.faults disk.old ≤ D.faults disk.new }
+        requires inside { at + N ≤ length (D.standing disk.old).seen }
+        ensures bytes { IsTrue D.tells → Shows (D.standing disk.old).seen self.old → IfOk result (λ bytes. bytes ≡ take N (drop at (D.standing disk.old).seen)) }
+        ensures shows { IsTrue D.tells → Shows (D.standing disk.old).seen self.old → OnOk result (Shows (D.standing disk.old).seen self.new) }
+        ensures quiet { Quiet (D.standing disk.old) (D.standing disk.new) }
+        ensures cause { IfErr result (ReadCause (D.standing disk.old) (D.standing disk.new)) }
     {
         self.look(alloc, disk, at, N as u64)?;
         let mut array = [0; N];

@@ -1,20 +1,21 @@
 -- How much is issued, and how much the facts of blocks hold.
-use Rattle.std.proofs.Common.{◌≡◌, ℕ, zero, suc, ◌+◌, ◌-◌, ◌*◌, ◌^◌, ◌<◌, ◌≤◌, Bool, true, false, List, [], ◌∷◌, length, refl, ap, ◌∙◌, arith, add-one, add-zero}
+use Rattle.std.proofs.Common.{◌≡◌, ℕ, ◌+◌, ◌-◌, ◌≤◌, Bool, true, false, List, [], ◌∷◌, length, refl, ap, ◌∙◌, arith, add-zero}
 use Rattle.std.specs.Prelude.{nat_lt, if◌then◌else◌}
 use Rattle.std.specs.List.{sum_by}
 use Rattle.std.proofs.lemmas.List.Sums.{sum_by-append, sum_by-cons}
-use Rattle.sia_ledger.specs.declared.block.CoinOutput.{CoinOutput}
-use Rattle.sia_ledger.specs.declared.block.FundOutput.{FundOutput}
-use Rattle.sia_ledger.specs.declared.block.Block.{Block}
+use Rattle.sia_types.specs.declared.coins.CoinOutput.{CoinOutput}
+use Rattle.sia_types.specs.declared.funds.FundOutput.{FundOutput}
+use Rattle.sia_types.specs.declared.block.Block.{Block}
 use Rattle.sia_ledger.specs.declared.fact.Fact.{Fact}
 use Rattle.sia_ledger.specs.declared.fact.Made.{Made}
 use Rattle.sia_ledger.specs.declared.fact.Made.TheVariants as made
-use Rattle.sia_ledger.specs.Amounts.{subsidy, issued}
-use Rattle.sia_ledger.specs.Identifiers.{block_id, genesis_id}
+use Rattle.sia_rules.specs.Amounts.{subsidy, issued}
+use Rattle.sia_ids.specs.Identifiers.{block_id, genesis_id}
 use Rattle.sia_ledger.specs.Facts.{payout_facts, fund_facts, genesis_facts, block_facts, blocks_facts}
 use Rattle.sia_ledger.specs.Holdings.{coins_of, resting_at, claim_of}
 use Rattle.sia_ledger.specs.Refusal.{payout_sum}
 use Rattle.sia_ledger.specs.Kept.{Follow}
+use Rattle.sia_rules.proofs.Issue.{issued-more}
 use Rattle.sia_ledger.proofs.FactLists.{payout_fact, fund_fact}
 
 abbrev value_of : Fact → ℕ
@@ -25,27 +26,6 @@ coins facts = sum_by value_of facts
 
 abbrev paid_by : CoinOutput → ℕ
 paid_by payout = payout.value
-
--- one height more
-issued-more : (n : ℕ) → issued (n + 1) ≡ issued n + subsidy (n + 1)
-unfolding issued
-issued-more n = rw add-one refl
-
-issued-suc : (n : ℕ) → issued (suc n) ≡ issued n + subsidy (suc n)
-unfolding issued
-issued-suc n = refl
-
-pub issued-none : issued 0 ≡ 0
-unfolding issued
-issued-none = refl
-
--- above 30,000 siacoins a height there is at most 270,000 siacoins for each of 270,000 heights
-issued_bound : (n : ℕ) → issued n + (270000 - n) * (270000 * 10 ^ 24) ≤ n * (30000 * 10 ^ 24) + 270000 * (270000 * 10 ^ 24)
-issued_bound zero = omega (arith, issued-none)
-issued_bound (suc n) = omega (arith, issued_bound n, issued-suc n)
-
-pub issued-fits : (n : ℕ) → n < 2 ^ 32 → issued n < 2 ^ 128
-issued-fits n low = omega (arith, issued_bound n)
 
 coins-payouts : (from : ℕ) (block : List ℕ) (index : ℕ) (payouts : List CoinOutput) → coins (payout_facts from block index payouts) ≡ payout_sum payouts
 coins-payouts from block index [] = refl

@@ -6,18 +6,20 @@ use Rattle.std.proofs.lemmas.List.Sums.{sum_by-append}
 use Rattle.std.specs.Prelude.{None}
 use Rattle.std.specs.Option.{option_or}
 use Rattle.std.specs.List.{sum_by}
-use Rattle.sia_ledger.specs.declared.block.Block.{Block}
-use Rattle.sia_ledger.specs.declared.block.FundOutput.{FundOutput}
+use Rattle.sia_types.specs.declared.block.Block.{Block}
+use Rattle.sia_types.specs.declared.funds.FundOutput.{FundOutput}
 use Rattle.sia_ledger.specs.declared.fact.Fact.{Fact}
 use Rattle.sia_ledger.specs.declared.sums.Sums.{Sums}
-use Rattle.sia_ledger.specs.Amounts.{issued}
+use Rattle.sia_rules.specs.Amounts.{issued}
 use Rattle.sia_ledger.specs.Chain.{Chain, height, extended}
-use Rattle.sia_ledger.specs.Identifiers.{block_id, genesis_id}
+use Rattle.sia_ids.specs.Identifiers.{block_id, genesis_id}
 use Rattle.sia_ledger.specs.Facts.{genesis_facts, block_facts, blocks_facts, all_made, facts}
 use Rattle.sia_ledger.specs.Holdings.{ids, tip, last_after, coins_of, resting_at, outputs, immature, unclaimed, sums_of}
-use Rattle.sia_ledger.specs.Kept.{IsNext, Follow, AreSized, IsKept}
+use Rattle.sia_ledger.specs.Kept.{IsNext, Follow, IsKept}
+use Rattle.sia_ids.specs.Identifiers.{AreSized}
 use Rattle.sia_ledger.specs.Refusal.{first_repeated, refusal, wrong_funds}
-use Rattle.sia_ledger.proofs.Amount.{issued-fits, issued-none, coins-genesis, coins-blocks, resting_below, no_claims}
+use Rattle.sia_rules.proofs.Issue.{issued-fits, issued-none}
+use Rattle.sia_ledger.proofs.Amount.{coins-genesis, coins-blocks, resting_below, no_claims}
 use Rattle.sia_ledger.proofs.ChainLists.{blocks_facts-push, last_after-get, Follow-push, Follow-front, length-payout_facts}
 use Rattle.sia_ledger.proofs.Repeats.{option_or-none, first_repeated-append, all_kept}
 use Rattle.sia_ledger.proofs.Verdicts.{verdict-none}

@@ -4,12 +4,12 @@ use Rattle.std.specs.Prelude.{Option, Some, None, nat_lt, ◌==◌, ◌||◌, no
 use Rattle.std.specs.Option.{option_map}
 use Rattle.std.specs.Cmp.Lexicographic.{same_text}
 use Rattle.std.proofs.lemmas.Bool.{eqb-true, ltb-false}
-use Rattle.sia_ledger.specs.declared.block.Block.{Block}
-use Rattle.sia_ledger.specs.declared.block.FundOutput.{FundOutput}
-use Rattle.sia_ledger.specs.declared.block.Params.{Params}
+use Rattle.sia_types.specs.declared.block.Block.{Block}
+use Rattle.sia_types.specs.declared.funds.FundOutput.{FundOutput}
+use Rattle.sia_ledger.specs.declared.params.Params.{Params}
 use Rattle.sia_ledger.specs.declared.fact.Fact.{Fact}
 use Rattle.sia_ledger.specs.declared.fault.BlockFault.TheVariants as block_fault
-use Rattle.sia_ledger.specs.Amounts.{subsidy}
+use Rattle.sia_rules.specs.Amounts.{subsidy}
 use Rattle.sia_ledger.specs.Facts.{block_facts}
 use Rattle.sia_ledger.specs.Refusal.{broken, bad_parent, height_end, wrong_payouts, payout_sum, first_repeated, same_id, verdict, fund_sum, wrong_funds, genesis_refusal}
 use Rattle.sia_ledger.proofs.Repeats.{option_or-none}

@@ -1,10 +1,7 @@
-pub mod Amounts
 pub mod Answers
 pub mod Chain
 pub mod Facts
 pub mod Holdings
-pub mod Identifiers
-pub mod Reading
 pub mod Refusal
 pub mod Texts
 pub mod Kept

@@ -2,25 +2,27 @@
 ghost use Rattle.std.specs.Prelude.{◌≡◌, ℕ, ◌+◌, ◌<◌, ◌^◌, ◌↔◌, List as Sequence, length, Err, IfOk, IfErr, OnOk, OnErr};
 ghost use Rattle.sia_ledger.specs.declared.fault.BlockFault.TheVariants as block_fault;
 ghost use Rattle.sia_ledger.specs.declared.fault.RevertFault.TheVariants as revert_fault;
-ghost use Rattle.sia_ledger.specs.Answers.{Judges, JudgesGenesis};
+ghost use Rattle.sia_encoding.specs.Answer.{Answers, unless};
+ghost use Rattle.sia_ledger.specs.Answers.{block_told, genesis_told};
 ghost use Rattle.sia_ledger.specs.Chain.{height, begun, extended, shortened};
 ghost use Rattle.sia_ledger.specs.Facts.{block_facts};
-ghost use Rattle.sia_ledger.specs.Identifiers.{block_id};
-ghost use Rattle.sia_ledger.specs.Holdings.{tip, block_at, sums_of};
+ghost use Rattle.sia_ids.specs.Identifiers.{block_id};
+ghost use Rattle.sia_ledger.specs.Holdings.{tip, id_at, sums_of};
 ghost use Rattle.sia_ledger.specs.Refusal.{refusal, genesis_refusal};
 ghost use Rattle.sia_ledger.specs.Texts.{IsMadeTwice};
 
-use crate::block::{Block, FundOutput, Params};
 use crate::fact::Fact;
 use crate::fault::{BlockFault, GenesisFault, RevertFault};
-use crate::ids::id_of_genesis;
 use crate::judging::{Judged, check_params, judge};
 use crate::made::repeated_id;
 use crate::making::facts_of_genesis;
+use crate::params::{Params, know_sizes};
 use crate::parts::{drop_block, push_block};
 use crate::sums::{Sums, coin_sum, resting_sum};
 use sia_blake::Hash;
 use sia_encoding::{List, Steps};
+use sia_ids::genesis_id;
+use sia_types::{Block, FundOutput, Item};
 use std::alloc::Global;
 use std::marker::Model;
 use std::sync::ledger::Ledger as StepBook;
@@ -59,12 +61,12 @@ impl Ledger {
     /// `FundSum` exactly where the siafunds don't sum to 10,000 or one output holds none, then `Maturity` exactly where
     /// it isn't one of 1 to 10,000. `Memory` also where two identifiers that the genesis makes are equal.
     pub fn genesis(alloc: Global, params: Params) -> Result<Ledger, GenesisFault>
-        ensures judged { JudgesGenesis result (genesis_refusal params) }
+        ensures judged { Answers (λ _. tt) genesis_told result (unless (genesis_refusal params)) }
         ensures begun { IfOk result (λ ledger. ledger ≡ begun params) }
     {
         check_params(&params)?;
         let Params { maturity, funds } = params;
-        let id = id_of_genesis(alloc, funds.as_slice())?;
+        let id = genesis_id(alloc, funds.as_slice())?;
         let facts = facts_of_genesis(alloc, &id, funds.as_slice())?;
         let ids = List::from_slice(alloc, &[id])?;
         if repeated_id(&[], facts.as_slice()).is_some() {
@@ -89,7 +91,7 @@ impl Ledger {
         block: &Block,
         steps: &mut Steps<L>,
     ) -> Result<(), BlockFault>
-        ensures judged { Judges result (refusal self.now block.now) }
+        ensures judged { Answers (λ _. tt) block_told result (unless (refusal self.now block.now)) }
         ensures twice { IfErr result (λ fault. (id : Sequence ℕ) → fault ≡ block_fault.SameId id → IsMadeTwice (extended self.now block.now) id) }
         ensures counted { steps.new ≡ steps.old + 1 }
     {
@@ -108,7 +110,7 @@ impl Ledger {
         block: &Block,
         steps: &mut Steps<L>,
     ) -> Result<(), BlockFault>
-        ensures judged { Judges result (refusal self.old block.now) }
+        ensures judged { Answers (λ _. tt) block_told result (unless (refusal self.old block.now)) }
         ensures applied { OnOk result (self.new ≡ extended self.old block.now) }
         ensures unchanged { OnErr result (self.new ≡ self.old) }
         ensures twice { IfErr result (λ fault. (id : Sequence ℕ) → fault ≡ block_fault.SameId id → IsMadeTwice (extended self.old block.now) id) }
@@ -175,28 +177,28 @@ impl Ledger {
 
     /// The identifier of the block at a height, the genesis being at 0; `None` above the height of the last block.
     pub fn block_at(&self, height: u64) -> Option<Hash>
-        ensures { result ≡ block_at self.now height }
+        ensures { result ≡ id_at self.now height }
     {
         self.ids.get(height as usize).copied()
     }
 
     // What the block makes behind this chain, or the first rule that it breaks.
     fn judge(&self, alloc: Global, block: &Block) -> Result<Judged, BlockFault>
-        ensures judged { Judges result (refusal self.now block.now) }
+        ensures judged { Answers (λ _. tt) block_told result (unless (refusal self.now block.now)) }
         ensures id { IfOk result (λ judged. judged.id ≡ block_id block.now) }
         ensures made { IfOk result (λ judged. judged.made ≡ block_facts self.now.maturity (height self.now + 1) block.now) }
         ensures nonce { length block.now.nonce ≡ 8 }
         ensures few { length block.now.payouts < 2 ^ 64 }
         ensures twice { IfErr result (λ fault. (id : Sequence ℕ) → fault ≡ block_fault.SameId id → IsMadeTwice (extended self.now block.now) id) }
     {
-        block.sizes();
+        know_sizes(block);
         let _kept = &self.facts;
         self.judge_next(alloc, block)
     }
 
     // The same, without what a second identifier shows.
     fn judge_next(&self, alloc: Global, block: &Block) -> Result<Judged, BlockFault>
-        ensures judged { Judges result (refusal self.now block.now) }
+        ensures judged { Answers (λ _. tt) block_told result (unless (refusal self.now block.now)) }
         ensures id { IfOk result (λ judged. judged.id ≡ block_id block.now) }
         ensures made { IfOk result (λ judged. judged.made ≡ block_facts self.now.maturity (height self.now + 1) block.now) }
     {

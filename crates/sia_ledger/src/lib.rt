@@ -1,45 +1,48 @@
 //! The ledger of a Sia chain: blocks that pay their miners, behind a genesis.
 //!
-//! A chain begins from [`Params`]: the siafund outputs of the genesis, and how long a miner payout rests. A [`Ledger`]
-//! is seen as its chain, and promises:
+//! A chain begins from its siafund outputs and a maturity, how many blocks a miner payout rests; each block stands on the
+//! last one and pays its subsidy (Sia whitepaper; siad's doc/Consensus.md). Contracts see a ledger as its chain.
 //!
-//! - A block is refused exactly with the first rule that it breaks: its parent is the tip (B1), its height is below 2^32
-//!   (B3), its payouts are above 0 and sum to the subsidy (B6), and no identifier is made a second time (B24). A second
-//!   identifier shows two different byte strings with one digest. After a refusal the chain is as it was.
-//! - Applying puts the block behind the last one, reverting drops the last one, and a revert is refused exactly at the
-//!   genesis.
-//! - The sums, the tip and the identifiers by height are those of the present chain. What is live, in escrow and
+//! ```
+//! let mut ledger = Ledger::genesis(alloc, params)?;
+//! ledger.apply(alloc, &block, &mut steps)?;
+//! let issued = ledger.sums().issued;
+//! ```
+//!
+//! # Promises
+//!
+//! - [`Ledger::genesis`] begins a chain from [`Params`], or answers exactly the first thing that is wrong with them.
+//! - [`Ledger::check_block`] and [`Ledger::apply`] refuse a block exactly with the first rule that it breaks: its parent is
+//!   the tip, its height is below 2^32, its payouts are above 0 and sum to the subsidy, and no identifier is made a second
+//!   time. A second identifier shows two different byte strings with one digest. After a refusal the chain is as it was.
+//! - [`Ledger::apply`] puts the block behind the last one, [`Ledger::revert`] drops the last one and is refused exactly at
+//!   the genesis.
+//! - [`Ledger::sums`], [`Ledger::tip`] and [`Ledger::block_at`] are those of the present chain. What is live, in escrow and
 //!   unclaimed together is what was issued.
-//! - Checking and applying count one step each, reverting none.
+//! - [`Ledger::check_block`] and [`Ledger::apply`] count one step each, [`Ledger::revert`] none.
 //!
-//! Want of memory is the one answer that no clause ties to a cause. The rules are those of the Sia whitepaper and of
-//! siad's doc/Consensus.md; the definitions stand in specs/: Chain, Amounts, Identifiers, Facts, Holdings, Refusal, Texts
-//! and Reading.
+//! Want of memory is the one answer that no clause ties to a cause.
 //!
-//! It stands on sia_encoding for the bytes of its records, on sia_blake for digests and on sia_merkle for the root of a
-//! block.
+//! # Stands on
+//!
+//! sia_encoding and sia_types for the records, sia_blake, sia_merkle and sia_ids for their identifiers, and sia_rules for the
+//! amounts.
 #![tactic(auto)]
 
 mod amounts;
-mod block;
 mod fact;
 mod fault;
-mod ids;
 mod judging;
 mod ledger;
 mod made;
 mod making;
+mod params;
 mod parts;
-mod reading;
-mod spelling;
 mod sums;
 
-pub use block::{Block, CoinOutput, FundOutput, Params};
 pub use fact::{Fact, Made};
 pub use fault::{BlockFault, GenesisFault, RevertFault};
 pub use ledger::Ledger;
-pub use reading::take_block;
+pub use params::Params;
+pub use sia_types::{Block, CoinOutput, FundOutput};
 pub use sums::Sums;
-
-#[cfg(test)]
-mod tests;

@@ -1,11 +1,11 @@
 //! The three lists that grow and shrink with a chain: its blocks, their identifiers, and what was made.
 ghost use Rattle.std.specs.Prelude.{◌≡◌, ◌+◌, ◌-◌, ◌<◌, ◌≤◌, ◌++◌, ◌∷◌, [], length, take, OnOk, OnErr};
 
-use crate::block::Block;
 use crate::fact::Fact;
 use crate::judging::Judged;
 use sia_blake::Hash;
 use sia_encoding::List;
+use sia_types::Block;
 use std::alloc::AllocError;
 
 /// Puts a block, its identifier and what it makes behind the last ones. Its error is want of memory: all stay.

@@ -160,6 +160,10 @@ when_told bytes false e = absurd (other_text bytes bytes e refl)
 one_is_one : (bytes : List ℕ) → pointwise nat_eq bytes bytes ≡ true
 one_is_one bytes = when_told bytes (pointwise nat_eq bytes bytes) refl
 
+-- equal texts are one
+pub one_text : (bytes other : List ℕ) → bytes ≡ other → pointwise nat_eq bytes other ≡ true
+one_text bytes other is = ap (λ b. pointwise nat_eq b other) is ∙ one_is_one other
+
 judged_by : (root below : List ℕ) (path : List Side) (hashes : List (List ℕ)) (found : Option (List ℕ)) (fits : Bool) → nat_eq (length hashes) (length path) ≡ fits
     → found ≡ joined_upwards below path hashes
     → (matched found root ≡ true → (length hashes ≡ length path) × (hash_of (climbed (Given below) path hashes) ≡ root))
@@ -172,10 +176,10 @@ judged_by root below path hashes found false e is =
     rw found_is ((λ yes. absurd (let no : false ≡ true = yes in cc)), (λ (used, joined). absurd (eqb-false _ _ e used)))
 
 pub judged : (root below leaf : List ℕ) (size place : ℕ) (hashes : List (List ℕ)) (found : Option (List ℕ))
-    → leaf_count size ≤ 2 ^ 58 → below ≡ leaf_digest (cut_leaf size place leaf) → found ≡ joined_upwards below (sides 58 (leaf_count size) place) hashes
+    → leaf_count size ≤ 2 ^ 64 → below ≡ leaf_digest (cut_leaf size place leaf) → found ≡ joined_upwards below (sides 64 (leaf_count size) place) hashes
     → IsTrue (matched found root) ↔ IsCorrect root size place leaf hashes
 judged root below leaf size place hashes found fits below_is is =
-    let path : path_of (leaf_count size) place ≡ sides 58 (leaf_count size) place = path_of-at 58 (leaf_count size) place fits in
+    let path : path_of (leaf_count size) place ≡ sides 64 (leaf_count size) place = path_of-at 64 (leaf_count size) place fits in
     let both = judged_by root below (path_of (leaf_count size) place) hashes found (nat_eq (length hashes) (length (path_of (leaf_count size) place))) refl (is ∙ ap (λ p. joined_upwards below p hashes) (sym path)) in
     let tops : hash_of (climbed (Given below) (path_of (leaf_count size) place) hashes) ≡ hash_of (leaf_tree size place leaf hashes) =
     climbed-hash (Given below) (Leaf (cut_leaf size place leaf)) (path_of (leaf_count size) place) hashes (given_leaf below (cut_leaf size place leaf) below_is) in

@@ -6,7 +6,7 @@ use Rattle.std.proofs.lemmas.Bool.{leb-true, leb-false, ltb-true, ltb-false}
 use Rattle.std.proofs.lemmas.List.{get_or-take, get_or-drop, length-take-le}
 use Rattle.std.proofs.Math.Bool.{and-false, false-and}
 use native.Mathlib.Nat.{pow-suc}
-use Rattle.sia_merkle.specs.Computations.{Tree, hash_of, same_tree, Collides, HaveOneShape, IsSized}
+use Rattle.sia_merkle.specs.Computations.{Tree, hash_of, same_tree, AreHashes, Collides, HaveOneShape, IsSized}
 use Rattle.sia_merkle.specs.Computations.Tree.{Given, Leaf, Node}
 use Rattle.sia_merkle.specs.Paths.{Side, sides, path_of, beside, climbed, cut_leaf, leaf_tree, own_leaf_tree, IsCorrect, hashes_beside, leaf_proof}
 use Rattle.sia_merkle.specs.Paths.Side.{Left, Right}
@@ -109,34 +109,35 @@ own_root below zero hashes place fits within is = top_only below hashes place fi
 own_root below (suc height) hashes place fits within is =
     whole_by below height hashes place fits within is (λ part at short inside same. own_root below height part at short inside same) (nat_le (length hashes) (2 ^ height)) (nat_lt place (2 ^ height)) refl refl
 
--- hashes of 32 bytes
-abbrev pub AreSized : List (List ℕ) → Type 0
-AreSized [] = Unit {0}
-AreSized (hash ∷ hashes) = (length hash ≡ 32) × AreSized hashes
-
-pub sized_told : (hashes : List (List ℕ)) → ((i : ℕ) → i < length hashes → length (get_or hashes i []) ≡ 32) → AreSized hashes
+-- what is known of each hash of a slice
+pub sized_told : (hashes : List (List ℕ)) → ((i : ℕ) → i < length hashes → length (get_or hashes i []) ≡ 32) → AreHashes hashes
 sized_told [] told = tt
 sized_told (hash ∷ hashes) told = (told 0 (omega arith), sized_told hashes (λ i within. told (suc i) (omega arith)))
 
-sized_digests : (leaves : List (List ℕ)) → AreSized (map leaf_digest leaves)
+pub sized_at : (hashes : List (List ℕ)) → AreHashes hashes → (i : ℕ) → i < length hashes → length (get_or hashes i []) ≡ 32
+sized_at [] sized i within = absurd (let none : i < 0 = within in omega arith)
+sized_at (hash ∷ hashes) sized zero within = sized.0
+sized_at (hash ∷ hashes) sized (suc i) within = sized_at hashes sized.1 i (omega arith)
+
+sized_digests : (leaves : List (List ℕ)) → AreHashes (map leaf_digest leaves)
 sized_digests [] = tt
 sized_digests (leaf ∷ leaves) = (leaf_digest-length leaf, sized_digests leaves)
 
-sized_take : (count : ℕ) (hashes : List (List ℕ)) → AreSized hashes → AreSized (take count hashes)
+sized_take : (count : ℕ) (hashes : List (List ℕ)) → AreHashes hashes → AreHashes (take count hashes)
 sized_take zero hashes sized = tt
 sized_take (suc count) [] sized = tt
 sized_take (suc count) (hash ∷ hashes) sized = (sized.0, sized_take count hashes sized.1)
 
-sized_drop : (count : ℕ) (hashes : List (List ℕ)) → AreSized hashes → AreSized (drop count hashes)
+sized_drop : (count : ℕ) (hashes : List (List ℕ)) → AreHashes hashes → AreHashes (drop count hashes)
 sized_drop zero hashes sized = sized
 sized_drop (suc count) [] sized = tt
 sized_drop (suc count) (hash ∷ hashes) sized = sized_drop count hashes sized.1
 
-sized_push : (hashes : List (List ℕ)) (hash : List ℕ) → AreSized hashes → length hash ≡ 32 → AreSized (hashes ++ hash ∷ [])
+sized_push : (hashes : List (List ℕ)) (hash : List ℕ) → AreHashes hashes → length hash ≡ 32 → AreHashes (hashes ++ hash ∷ [])
 sized_push [] hash sized long = (long, tt)
 sized_push (first ∷ hashes) hash sized long = (sized.0, sized_push hashes hash sized.1 long)
 
-first_sized : (hashes : List (List ℕ)) → AreSized hashes → length (tree_root zero hashes) ≡ 32
+first_sized : (hashes : List (List ℕ)) → AreHashes hashes → length (tree_root zero hashes) ≡ 32
 unfolding tree_root
 first_sized [] sized = refl
 first_sized (hash ∷ hashes) sized = sized.0
@@ -145,16 +146,16 @@ root_by : (height : ℕ) (hashes : List (List ℕ)) → length (tree_root height
 root_by height hashes below true e = ap length (tree_root-low height hashes (leb-true _ _ e)) ∙ below
 root_by height hashes below false e = ap length (tree_root-split height hashes (leb-false _ _ e)) ∙ node_digest-length _ _
 
-pub tree_root-length : (height : ℕ) (hashes : List (List ℕ)) → AreSized hashes → length (tree_root height hashes) ≡ 32
+pub tree_root-length : (height : ℕ) (hashes : List (List ℕ)) → AreHashes hashes → length (tree_root height hashes) ≡ 32
 tree_root-length zero hashes sized = first_sized hashes sized
 tree_root-length (suc height) hashes sized = root_by height hashes (tree_root-length height hashes sized) (nat_le (length hashes) (2 ^ height)) refl
 
-no_beside : (hashes : List (List ℕ)) (place : ℕ) → AreSized (hashes_beside zero hashes place)
+no_beside : (hashes : List (List ℕ)) (place : ℕ) → AreHashes (hashes_beside zero hashes place)
 unfolding hashes_beside
 no_beside hashes place = tt
 
-beside_by : (height : ℕ) (hashes : List (List ℕ)) (place : ℕ) → AreSized hashes → ((part : List (List ℕ)) (at : ℕ) → AreSized part → AreSized (hashes_beside height part at))
-    → (low left : Bool) → nat_le (length hashes) (2 ^ height) ≡ low → nat_lt place (2 ^ height) ≡ left → AreSized (hashes_beside (suc height) hashes place)
+beside_by : (height : ℕ) (hashes : List (List ℕ)) (place : ℕ) → AreHashes hashes → ((part : List (List ℕ)) (at : ℕ) → AreHashes part → AreHashes (hashes_beside height part at))
+    → (low left : Bool) → nat_le (length hashes) (2 ^ height) ≡ low → nat_lt place (2 ^ height) ≡ left → AreHashes (hashes_beside (suc height) hashes place)
 beside_by height hashes place sized parts true left e f = rw (beside-low height hashes place (leb-true _ _ e)) (parts hashes place sized)
 beside_by height hashes place sized parts false true e f =
     rw (beside-left height hashes place (leb-false _ _ e) (ltb-true _ _ f))
@@ -163,13 +164,13 @@ beside_by height hashes place sized parts false false e f =
     rw (beside-right height hashes place (leb-false _ _ e) (ltb-false _ _ f))
     (sized_push _ _ (parts (drop (2 ^ height) hashes) (place - 2 ^ height) (sized_drop (2 ^ height) hashes sized)) (tree_root-length height (take (2 ^ height) hashes) (sized_take (2 ^ height) hashes sized)))
 
-beside_sized : (height : ℕ) (hashes : List (List ℕ)) (place : ℕ) → AreSized hashes → AreSized (hashes_beside height hashes place)
+beside_sized : (height : ℕ) (hashes : List (List ℕ)) (place : ℕ) → AreHashes hashes → AreHashes (hashes_beside height hashes place)
 beside_sized zero hashes place sized = no_beside hashes place
 beside_sized (suc height) hashes place sized =
     beside_by height hashes place sized (λ part at all. beside_sized height part at all) (nat_le (length hashes) (2 ^ height)) (nat_lt place (2 ^ height)) refl refl
 
 -- what is joined along one path has one shape, and differs where it differed below
-climbed_sized : (tree : Tree) (path : List Side) (hashes : List (List ℕ)) → IsSized tree → AreSized hashes → IsSized (climbed tree path hashes)
+climbed_sized : (tree : Tree) (path : List Side) (hashes : List (List ℕ)) → IsSized tree → AreHashes hashes → IsSized (climbed tree path hashes)
 unfolding climbed IsSized
 climbed_sized tree [] hashes sized all = sized
 climbed_sized tree (side ∷ path) [] sized all = sized
@@ -233,12 +234,12 @@ unfolding path_of leaf_proof
 own_count bytes place =
     beside-count (length (map leaf_digest (leaves_of bytes))) (map leaf_digest (leaves_of bytes)) place ∙ ap (λ n. length (sides n n place)) (length-leaf_hashes bytes)
 
-own_sized : (bytes : List ℕ) (place : ℕ) → AreSized (leaf_proof (map leaf_digest (leaves_of bytes)) place)
+own_sized : (bytes : List ℕ) (place : ℕ) → AreHashes (leaf_proof (map leaf_digest (leaves_of bytes)) place)
 unfolding leaf_proof
 own_sized bytes place = beside_sized (length (map leaf_digest (leaves_of bytes))) (map leaf_digest (leaves_of bytes)) place (sized_digests (leaves_of bytes))
 
 pub another_leaf : (bytes root leaf : List ℕ) (place : ℕ) (hashes : List (List ℕ)) → place < leaf_count (length bytes) → root_of (leaves_of bytes) ≡ root
-    → AreSized hashes → IsCorrect root (length bytes) place leaf hashes → cut_leaf (length bytes) place leaf ≢ leaf_at bytes place
+    → AreHashes hashes → IsCorrect root (length bytes) place leaf hashes → cut_leaf (length bytes) place leaf ≢ leaf_at bytes place
     → Collides (own_leaf_tree bytes place) (leaf_tree (length bytes) place leaf hashes)
 another_leaf bytes root leaf place hashes within is sized correct other =
     let counts : length (leaf_proof (map leaf_digest (leaves_of bytes)) place) ≡ length hashes = own_count bytes place ∙ sym correct.used in

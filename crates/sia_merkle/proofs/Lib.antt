@@ -4,7 +4,9 @@ pub mod Climbs
 pub mod Cuts
 pub mod Fours
 pub mod LeafSoundness
+pub mod Parts
 pub mod Raises
 mod Shapes
 pub mod Stacks
 pub mod Trees
+pub mod WholeGroups

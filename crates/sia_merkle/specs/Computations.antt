@@ -1,6 +1,6 @@
 -- How a root is computed, as a tree of its own. Roots of lists, proofs of one leaf, of a range and of a diff are all
 -- computed so, and two of them are compared here, once for all.
-use Rattle.std.specs.Prelude.{ℕ, ◌≡◌, List, ◌∷◌, ◌++◌, Bool, false, ◌&&◌, nat_eq, length, if◌then◌else◌, Option, Some, None}
+use Rattle.std.specs.Prelude.{ℕ, ◌≡◌, List, [], ◌∷◌, ◌++◌, Bool, false, ◌&&◌, nat_eq, length, if◌then◌else◌, Option, Some, None}
 use Rattle.std.specs.Cmp.Lexicographic.{pointwise}
 use Rattle.std.specs.Option.{option_or}
 use Rattle.sia_merkle.specs.Collision.{Collision}
@@ -53,6 +53,11 @@ unfoldable pub IsSized : Tree → Type 0
 IsSized (Given hash) = length hash ≡ 32
 IsSized (Leaf bytes) = Unit {0}
 IsSized (Node left right) = IsSized left × IsSized right
+
+-- each of these hashes has 32 bytes
+abbrev pub AreHashes : List (List ℕ) → Type 0
+AreHashes [] = Unit {0}
+AreHashes (hash ∷ hashes) = (length hash ≡ 32) × AreHashes hashes
 
 -- there is such a pair, and it is a collision
 abbrev pub IsCollision : Option (List ℕ × List ℕ) → Type 0

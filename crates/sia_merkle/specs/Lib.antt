@@ -3,6 +3,7 @@ pub mod Computations
 pub mod History
 pub mod Levels
 pub mod Paths
+pub mod Pieces
 pub mod Roots
 pub mod Segments
 pub mod Stacked

@@ -4,13 +4,10 @@ ghost use Rattle.sia_merkle.specs.Paths.{IsCorrect, hashes_beside, joined_upward
 ghost use Rattle.sia_merkle.specs.Roots.{leaf_count, leaf_digest, leaves_of, node_digest};
 
 use crate::hashing::{leaf_hash, node};
-use crate::whole::{leaves, power, root};
+use crate::whole::{HEIGHT, leaves, power, root};
 use sia_blake::Hash;
 use sia_encoding::List;
 use std::alloc::{AllocError, Global};
-
-/// The height that every tree of a byte string's leaves fits.
-const HEIGHT: u32 = 58;
 
 /// Whether the hashes join the leaf at a place of a byte string of so many bytes to this root, and none is missing or
 /// left over. The leaf has 64 bytes, of which those behind the byte string's end aren't looked at.

@@ -1,4 +1,8 @@
 //! The root of hashes that come one by one, in no memory but a slot for each height.
+//!
+//! Eleven hashes are 8 + 2 + 1: slot 3 holds the root over the hashes 0 to 7, slot 1 that over 8 and 9, and slot 0 the hash
+//! 10. Their root is the node over slot 3 and the node over slots 1 and 0. A twelfth hash is joined to slot 0, and that node
+//! to slot 1: slot 2 then holds the root over 8 to 11, and slots 0 and 1 are free.
 ghost use Rattle.std.specs.Prelude.{◌≡◌, ℕ, ◌+◌, ◌<◌, ◌^◌, List, [], ◌∷◌, ◌++◌, length};
 ghost use Rattle.sia_merkle.specs.History.{pushed_hashes};
 ghost use Rattle.sia_merkle.specs.Roots.{leaf_digest, node_root_of};

@@ -3,8 +3,13 @@ ghost use Rattle.std.specs.Prelude.{◌≡◌, ◌*◌, ◌^◌, ◌<◌, ◌≤
 ghost use Rattle.sia_merkle.specs.Roots.{leaf_count, leaves_of, node_digest, node_root_of, root_of};
 
 use crate::groups::{GROUP, GROUP_LEN, group_root, leaf_group_root};
+use crate::hashing::leaf_hash;
+use crate::pieces::PieceStack;
 use crate::stack::RootStack;
 use sia_blake::Hash;
+
+/// How many bytes a leaf has, or the last one at most.
+const LEAF_LEN: usize = 64;
 
 /// How many leaves so many bytes have.
 pub fn leaves(size: u64) -> u64
@@ -13,8 +18,11 @@ pub fn leaves(size: u64) -> u64
     size.div_ceil(64)
 }
 
+/// The height that every tree of fewer than 2^64 hashes fits.
+pub const HEIGHT: u32 = 64;
+
 /// A power of two.
-pub(crate) fn power(exponent: u32) -> u64
+pub fn power(exponent: u32) -> u64
     requires { exponent < 64 }
     ensures { result ≡ 2 ^ exponent }
 {
@@ -22,7 +30,7 @@ pub(crate) fn power(exponent: u32) -> u64
 }
 
 /// The part of a byte string at a place, where each has so many bytes: that many, or what is left of them in the last one.
-fn part_of(bytes: &[u8], size: usize, place: usize) -> &[u8]
+pub(crate) fn part_of(bytes: &[u8], size: usize, place: usize) -> &[u8]
     requires { size * place ≤ length bytes.now }
     ensures { result.now ≡ take size (drop (size * place) bytes.now) }
 {
@@ -42,7 +50,7 @@ fn group_of(hashes: &[Hash], place: usize) -> &[Hash]
 }
 
 /// The root over leaves that are pushed one by one.
-pub(crate) fn root_by_leaf(bytes: &[u8]) -> Hash
+fn root_by_leaf(bytes: &[u8]) -> Hash
     ensures { result ≡ root_of (leaves_of bytes.now) }
 {
     let mut stack = RootStack::new();
@@ -53,7 +61,7 @@ pub(crate) fn root_by_leaf(bytes: &[u8]) -> Hash
 }
 
 /// The root over hashes that are pushed one by one.
-pub(crate) fn root_by_hash(hashes: &[Hash]) -> Hash
+fn root_by_hash(hashes: &[Hash]) -> Hash
     ensures { result ≡ node_root_of hashes.now }
 {
     let mut stack = RootStack::new();
@@ -64,11 +72,13 @@ pub(crate) fn root_by_hash(hashes: &[Hash]) -> Hash
 }
 
 /// The root over a group of leaves, of which the last group may lack some.
-fn leaf_part_root(bytes: &[u8]) -> Hash
+pub(crate) fn leaf_part_root(bytes: &[u8]) -> Hash
     ensures { result ≡ root_of (leaves_of bytes.now) }
 {
     if bytes.len() == GROUP_LEN {
         leaf_group_root(bytes)
+    } else if 0 < bytes.len() && bytes.len() <= LEAF_LEN {
+        leaf_hash(bytes)
     } else {
         root_by_leaf(bytes)
     }
@@ -83,17 +93,6 @@ fn part_root(hashes: &[Hash]) -> Hash
     } else {
         root_by_hash(hashes)
     }
-}
-
-/// The root over groups of leaves.
-fn root_by_leaf_group(bytes: &[u8]) -> Hash
-    ensures { result ≡ root_of (leaves_of bytes.now) }
-{
-    let mut stack = RootStack::new();
-    for place in 0..bytes.len().div_ceil(GROUP_LEN) {
-        stack.push_hash(&leaf_part_root(part_of(bytes, GROUP_LEN, place)));
-    }
-    stack.root()
 }
 
 /// The root over groups of hashes.
@@ -114,7 +113,7 @@ pub fn root(bytes: &[u8]) -> Hash
     if bytes.len() <= GROUP_LEN {
         leaf_part_root(bytes)
     } else {
-        root_by_leaf_group(bytes)
+        PieceStack::new().root(bytes)
     }
 }
 
@@ -128,11 +127,3 @@ pub fn node_root(hashes: &[Hash]) -> Hash
         root_by_group(hashes)
     }
 }
-
-/// The law of the split: the root over more than one hash is the node over the roots of its two parts, of which the left
-/// one holds the largest power of two below their number. It does nothing at run time.
-pub fn root_splits(_hashes: &[Hash], _height: u32)
-    requires above { 2 ^ _height < length _hashes.now }
-    requires within { length _hashes.now ≤ 2 * 2 ^ _height }
-    ensures { node_root_of _hashes.now ≡ node_digest (node_root_of (take (2 ^ _height) _hashes.now)) (node_root_of (drop (2 ^ _height) _hashes.now)) }
-{}

@@ -8,12 +8,12 @@ use Rattle.std.proofs.lemmas.Option.{option_and_then_some}
 use Rattle.std.proofs.lemmas.List.Elements.{All-weaker}
 use Rattle.std.proofs.lemmas.List.Folds.{list_any_none}
 use Rattle.toml.specs.Data.{Data, as_integer, as_array}
-use Rattle.sia_ledger.specs.declared.block.FundOutput.{FundOutput}
-use Rattle.sia_ledger.specs.declared.block.Params.{Params}
+use Rattle.sia_types.specs.declared.funds.FundOutput.{FundOutput}
+use Rattle.sia_ledger.specs.declared.params.Params.{Params}
 use Rattle.sia_ledger.specs.Refusal.{genesis_refusal, wrong_funds, wrong_maturity}
 use Rattle.sia_program.specs.declared.config.ConfigFault.TheVariants.{Text, Key}
 use Rattle.sia_program.specs.declared.config.ConfigKey.TheVariants.{Maturity, Siafund}
-use Rattle.sia_program.specs.Steps.{◌>>=◌}
+use Rattle.sia_encoding.specs.Answer.{◌>>=◌}
 use Rattle.sia_program.specs.Config.{document, chain_key, integer_or, maturity_of, siafunds_of_items, siafund_sum, is_whole_issue, whole_issue, siafunds_of, config_of}
 use Rattle.sia_program.proofs.Siafunds.{between-bounds, IsEntry, siafunds_of_items-entries}
 

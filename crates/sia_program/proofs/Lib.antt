@@ -1,7 +1,8 @@
 pub mod Documents
 pub mod Feeds
 pub mod Founding
-pub mod Lines
+pub mod HashLines
 pub mod Numbers
 pub mod Siafunds
+pub mod Soaked
 pub mod Tellings

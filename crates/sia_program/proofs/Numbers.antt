@@ -1,5 +1,5 @@
 -- What a word's parsing as a number says of the number whose decimal text it is.
-use Rattle.std.proofs.Common.{◌≡◌, ◌≢◌, ℕ, suc, zero, ◌+◌, ◌<◌, ◌≤◌, true, false, List, [], ◌∷◌, length, map, get_or, Option, Some, None, Result, Ok, Err, refl, sym, ◌∙◌, ap, subst, arith}
+use Rattle.std.proofs.Common.{◌≡◌, ◌≢◌, ℕ, suc, zero, ◌+◌, ◌<◌, ◌≤◌, true, false, List, [], ◌∷◌, length, get_or, Some, None, Result, Ok, Err, refl, sym, ◌∙◌, ap, subst, arith}
 use Rattle.std.specs.Prelude.{Bool, decimal, nat_eq, nat_lt, ◌&&◌, ◌||◌, ◌^◌}
 use Rattle.std.specs.Cmp.Lexicographic.{pointwise, same_text}
 use Rattle.std.specs.Int.Digits.{digits_of}
@@ -13,7 +13,7 @@ use Rattle.std.proofs.lemmas.List.{get_or-map, length-map}
 use Rattle.std.proofs.lemmas.Str.{IsUtf8-from_ascii}
 use Rattle.std.proofs.lemmas.Str.Parse.{numerals_by_value, not_in_digits, parse_plain, tells_digits}
 use Rattle.sia_range.proofs.Judging.{one_text}
-use Rattle.sia_program.specs.Form.{begins_otherwise, number_of}
+use Rattle.sia_program.specs.Words.{begins_otherwise, number_of}
 
 number_is : (word : List ℕ) → word ≡ decimal (digits_value 10 word) → digits_value 10 word < 2 ^ 64 → number_of word ≡ Some (digits_value 10 word)
 unfolding number_of

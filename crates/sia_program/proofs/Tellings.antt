@@ -1,90 +1,62 @@
 -- How a command is answered, from how it ended and from what was told of it.
-use Rattle.std.proofs.Common.{◌≡◌, ℕ, List, Option, Some, None, Result, Ok, Err, ◌⊎◌, inl, inr, refl, sym, ◌∙◌, subst}
-use Rattle.std.specs.Io.KnownBytes.{Keeps}
+use Rattle.std.proofs.Common.{◌≡◌, ℕ, List, Result, Ok, Err, ◌⊎◌, inl, inr, sym, ◌∙◌, subst}
+use Rattle.std.proofs.lemmas.Option.{IfSome_then}
 use Rattle.sia_program.specs.declared.form.Form.{Form}
-use Rattle.sia_program.specs.declared.form.Form.TheVariants as form
 use Rattle.sia_program.specs.declared.stop.Stop.{Stop}
 use Rattle.sia_program.specs.declared.stop.Stop.TheVariants as stop
-use Rattle.sia_program.specs.Outcome.{OfOutcome}
-use Rattle.sia_program.specs.Answer.{status_of, IsQuiet, Ended, IsToldAs, TellsReason, Answered}
+use Rattle.sia_program.specs.Answer.{status_of, IsQuiet, Ended, Fell, IsToldAs, TellsReason, Answered}
+use Rattle.sia_program.specs.Outcome.{OfOutcome, outcome_of}
+use Rattle.sia_program.specs.Streams.{Stream, Streams}
 
--- bytes that nothing touched are kept
-pub Keeps-same : (bytes : Option (List ℕ)) → Keeps bytes bytes
-Keeps-same None = tt
-Keeps-same (Some bytes) = refl
+quiet_as_told : (reason told : Stop) (before after : Stream) → IsToldAs reason told → IsQuiet (Err reason) before after → IsQuiet (Err told) before after
+quiet_as_told reason told before after (inl same) quiet = subst (λ s. IsQuiet (Err s) before after) (sym same) quiet
+quiet_as_told (stop.Refused case) told before after (inr (memory, refused)) quiet = subst (λ s. IsQuiet (Err s) before after) (sym memory) quiet
+quiet_as_told stop.Outside told before after (inr (memory, refused)) quiet = absurd refused
+quiet_as_told stop.Memory told before after (inr (memory, refused)) quiet = absurd refused
+quiet_as_told stop.Long told before after (inr (memory, refused)) quiet = absurd refused
 
--- a fact of what told bytes are to give, from another
-pub OfOutcome-weaker : (form : Form) (config input : Option (List ℕ)) (P Q : Result (List ℕ) Stop → Type 0) → ((given : Result (List ℕ) Stop) → P given → Q given) → OfOutcome form config input P → OfOutcome form config input Q
-OfOutcome-weaker form.Ledger (Some c) (Some f) P Q weaker told = weaker _ told
-OfOutcome-weaker form.Ledger (Some c) None P Q weaker told = tt
-OfOutcome-weaker form.Ledger None input P Q weaker told = tt
-OfOutcome-weaker form.Root config (Some file) P Q weaker told = weaker _ told
-OfOutcome-weaker form.Root config None P Q weaker told = tt
-OfOutcome-weaker (form.Prove start end) config (Some file) P Q weaker told = weaker _ told
-OfOutcome-weaker (form.Prove start end) config None P Q weaker told = tt
+ended_as_told : (reason told : Stop) (given : Result (List ℕ) Stop) (before after : Stream) → IsToldAs reason told → Ended (Err reason) given before after → Ended (Err told) given before after
+ended_as_told reason told given before after (inl same) ended = subst (λ s. Ended (Err s) given before after) (sym same) ended
+ended_as_told (stop.Refused case) told given before after (inr (memory, refused)) ended = subst (λ s. Ended (Err s) given before after) (sym memory) ended.1
+ended_as_told stop.Outside told given before after (inr (memory, refused)) ended = absurd refused
+ended_as_told stop.Memory told given before after (inr (memory, refused)) ended = absurd refused
+ended_as_told stop.Long told given before after (inr (memory, refused)) ended = absurd refused
 
--- no end has the status of words without a form
-pub status_of-form : {A : Type 0} (end : Result A Stop) → status_of end ≡ 1 → ⊥
-status_of-form (Ok done) e = cc
-status_of-form (Err (stop.Refused case)) e = cc
-status_of-form (Err stop.Outside) e = cc
-status_of-form (Err stop.Memory) e = cc
-status_of-form (Err stop.Long) e = cc
-
-quiet_as_told : (reason told : Stop) (old new : Option (List ℕ)) → IsToldAs reason told → IsQuiet (Err reason) old new → IsQuiet (Err told) old new
-quiet_as_told reason told old new (inl same) quiet = subst (λ s. IsQuiet (Err s) old new) (sym same) quiet
-quiet_as_told (stop.Refused case) told old new (inr (memory, refused)) quiet = subst (λ s. IsQuiet (Err s) old new) (sym memory) quiet
-quiet_as_told stop.Outside told old new (inr (memory, refused)) quiet = absurd refused
-quiet_as_told stop.Memory told old new (inr (memory, refused)) quiet = absurd refused
-quiet_as_told stop.Long told old new (inr (memory, refused)) quiet = absurd refused
-
-ended_as_told : (reason told : Stop) (given : Result (List ℕ) Stop) (old new : Option (List ℕ)) → IsToldAs reason told → Ended (Err reason) given old new → Ended (Err told) given old new
-ended_as_told reason told given old new (inl same) ended = subst (λ s. Ended (Err s) given old new) (sym same) ended
-ended_as_told (stop.Refused case) told given old new (inr (memory, refused)) ended = subst (λ s. Ended (Err s) given old new) (sym memory) ended.1
-ended_as_told stop.Outside told given old new (inr (memory, refused)) ended = absurd refused
-ended_as_told stop.Memory told given old new (inr (memory, refused)) ended = absurd refused
-ended_as_told stop.Long told given old new (inr (memory, refused)) ended = absurd refused
-
--- the work was done, and nothing is told
-pub answered_done : (form : Form) (config input out_old out_new err : Option (List ℕ)) (failed : Type 0) → OfOutcome form config input (λ given. Ended (Ok tt) given out_old out_new) → Answered form 0 config input out_old out_new err err failed
-answered_done form config input out_old out_new err failed told = record {
-  end = Ok tt;
-  status_is = refl;
-  line = Keeps-same err;
-  quiet = tt;
-  told = told;
-}
-
--- the command stopped, and why is told
-pub answered_stopped : (form : Form) (reason : Stop) (status : ℕ) (config input out_old out_new err_old err_new : Option (List ℕ)) (failed : Type 0) → TellsReason reason status err_old err_new failed → IsQuiet (Err reason) out_old out_new → OfOutcome form config input (λ given. Ended (Err reason) given out_old out_new) → Answered form status config input out_old out_new err_old err_new failed
-answered_stopped form reason status config input out_old out_new err_old err_new failed (told, same, is, line) quiet ended = record {
-  end = Err told;
-  status_is = is;
-  line = line;
-  quiet = quiet_as_told reason told out_old out_new same quiet;
-  told = OfOutcome-weaker form config input _ _ (λ given. ended_as_told reason told given out_old out_new same) ended;
-}
-
--- a status that words with a form can't have
-pub stopped-form : (reason : Stop) (status : ℕ) (old new : Option (List ℕ)) (failed : Type 0) → TellsReason reason status old new failed → status ≡ 1 → ⊥
-stopped-form reason status old new failed (told, same, is, line) one = status_of-form {A = Unit {0}} (Err told) (sym is ∙ one)
+-- a status tells its end apart: no stop has status 0
+no_stop : (reason : Stop) → status_of {A = Unit {0}} (Err reason) ≡ 0 → ⊥
+no_stop (stop.Refused case) e = cc
+no_stop stop.Outside e = cc
+no_stop stop.Memory e = cc
+no_stop stop.Long e = cc
 
 -- a fault of the outside is told only where there was one
-pub stopped-outside : {P : Type 0} (reason : Stop) (status : ℕ) (old new : Option (List ℕ)) (failed : Type 0) → TellsReason reason status old new failed → (reason ≡ stop.Outside → P) → status ≡ 3 → P
-stopped-outside reason status old new failed (stop.Refused case, same, is, line) met three = absurd (cc)
-stopped-outside reason status old new failed (stop.Memory, same, is, line) met three = absurd (cc)
-stopped-outside reason status old new failed (stop.Long, same, is, line) met three = absurd (cc)
-stopped-outside reason status old new failed (stop.Outside, inl same, is, line) met three = met (sym same)
-stopped-outside reason status old new failed (stop.Outside, inr (memory, refused), is, line) met three = absurd (cc)
+told_outside : (reason told : Stop) → IsToldAs reason told → status_of {A = Unit {0}} (Err told) ≡ 3 → reason ≡ stop.Outside
+told_outside reason (stop.Refused case) same three = absurd (cc)
+told_outside reason stop.Memory same three = absurd (cc)
+told_outside reason stop.Long same three = absurd (cc)
+told_outside reason stop.Outside (inl same) three = sym same
+told_outside reason stop.Outside (inr (memory, refused)) three = absurd (cc)
 
-completed : (end : Result (Unit {0}) Stop) (status : ℕ) (given : Result (List ℕ) Stop) (old new : Option (List ℕ)) (Fell : Type 0) → status ≡ status_of end → (status ≡ 3 → Fell) → ¬ Fell → Ended end given old new → (status ≡ 5) ⊎ (status ≡ status_of given)
-completed (Ok done) status given old new Fell is fell none (text, read, took) = inr (rw read is)
-completed (Err (stop.Refused case)) status given old new Fell is fell none ended = inr (rw ended.0 is)
-completed (Err stop.Long) status given old new Fell is fell none ended = inr (rw ended.0 is)
-completed (Err stop.Memory) status given old new Fell is fell none ended = inl is
-completed (Err stop.Outside) status given old new Fell is fell none ended = absurd (none (fell is))
+completed : (end : Result (Unit {0}) Stop) (status : ℕ) (given : Result (List ℕ) Stop) (before after : Stream) (Fallen : Type 0) → status ≡ status_of end → (status ≡ 3 → Fallen) → ¬ Fallen → Ended end given before after → (status ≡ 5) ⊎ (status ≡ status_of given)
+completed (Ok done) status given before after Fallen is fell none (text, read, took) = inr (rw read is)
+completed (Err (stop.Refused case)) status given before after Fallen is fell none ended = inr (rw ended.0 is)
+completed (Err stop.Long) status given before after Fallen is fell none ended = inr (rw ended.0 is)
+completed (Err stop.Memory) status given before after Fallen is fell none ended = inl is
+completed (Err stop.Outside) status given before after Fallen is fell none ended = absurd (none (fell is))
 
--- over told bytes, where nothing outside failed, the status is that of what they give, or that of want of memory
-pub answered-completed : (form : Form) (status : ℕ) (config input out_old out_new err_old err_new : Option (List ℕ)) (failed Fell : Type 0) → Answered form status config input out_old out_new err_old err_new failed → (status ≡ 3 → Fell) → ¬ Fell → OfOutcome form config input (λ given. (status ≡ 5) ⊎ (status ≡ status_of given))
-answered-completed form status config input out_old out_new err_old err_new failed Fell answered fell none =
-    OfOutcome-weaker form config input _ _ (λ given. completed answered.end status given out_old out_new Fell answered.status_is fell none) answered.told
+-- the command stopped, and why is told
+pub answered_stopped : (form : Form) (reason : Stop) (status : ℕ) (before after : Streams) → TellsReason reason status before.err after.err → IsQuiet (Err reason) before.out after.out
+    → (reason ≡ stop.Outside → Fell form before after) → OfOutcome form before.sources (λ given. Ended (Err reason) given before.out after.out) → Answered form status before after
+answered_stopped form reason status before after (told, same, is, line) quiet fell ended =
+    let caused : status ≡ 3 → Fell form before after = λ three. fell (told_outside reason told same (sym is ∙ three)) in
+    let ends : OfOutcome form before.sources (λ given. Ended (Err told) given before.out after.out) = IfSome_then (outcome_of form before.sources) ended (λ given. ended_as_told reason told given before.out after.out same) in
+    record {
+      end = Err told;
+      status_is = is;
+      line = line;
+      quiet = quiet_as_told reason told before.out after.out same quiet;
+      told = ends;
+      ended = λ zero. absurd (no_stop told (sym is ∙ zero));
+      outside = caused;
+      complete = λ none. IfSome_then (outcome_of form before.sources) ends (λ given. completed (Err told) status given before.out after.out (Fell form before after) is caused none);
+    }

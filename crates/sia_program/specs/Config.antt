@@ -1,18 +1,18 @@
 -- The configuration: a TOML document (TOML 1.0, as the crate `toml` reads it), whose keys set the chain's
 -- parameters. Unknown keys are ignored, and an absent key has its default.
-use Rattle.std.specs.Prelude.{◌≡◌, Bool, ℕ, ℤ, pos, List, [], ◌∷◌, codes, length, sum_by, nat_le, ◌==◌, ◌&&◌, if◌then◌else◌, Option, Some, None, option_map, option_and_then, Result, Ok, Err}
+use Rattle.std.specs.Prelude.{Bool, ℕ, ℤ, pos, List, [], ◌∷◌, codes, length, sum_by, nat_le, ◌==◌, ◌&&◌, if◌then◌else◌, Option, Some, None, option_map, option_and_then, Result, Ok}
 use Rattle.std.specs.Option.{ok_or}
 use Rattle.std.specs.Result.{result_ok}
 use Rattle.std.specs.Str.{is_utf8}
 use Rattle.hex.specs.Hex.{decode_sized}
 use Rattle.toml.specs.Data.{Data, table, Items, no_items, item, get, as_integer, as_str, as_array}
 use Rattle.toml.specs.Parse.{parse_document}
-use Rattle.sia_ledger.specs.declared.block.FundOutput.{FundOutput}
-use Rattle.sia_ledger.specs.declared.block.Params.{Params}
-use Rattle.sia_program.specs.Steps.{◌>>=◌}
+use Rattle.sia_types.specs.declared.funds.FundOutput.{FundOutput}
+use Rattle.sia_ledger.specs.declared.params.Params.{Params}
+use Rattle.sia_encoding.specs.Answer.{◌>>=◌}
 use Rattle.sia_program.specs.declared.config.ConfigKey.TheVariants.{Maturity, Siafund}
 use Rattle.sia_program.specs.declared.config.ConfigFault.{ConfigFault}
-use Rattle.sia_program.specs.declared.config.ConfigFault.TheVariants.{Text, Key, Memory}
+use Rattle.sia_program.specs.declared.config.ConfigFault.TheVariants.{Text, Key}
 
 -- the document that the bytes spell, if they are UTF-8 and TOML
 unfoldable pub document : List ℕ → Option Data
@@ -36,20 +36,20 @@ integer_or default low high (Some d) = between low high (as_integer d)
 abbrev pub maturity_of : Data → Option ℕ
 maturity_of doc = integer_or 144 1 10000 (chain_key (codes "maturity") doc)
 
--- 32 bytes written as 64 hexadecimal digits of either case
-abbrev pub hash_of : List ℕ → Option (List ℕ)
-hash_of text = result_ok (decode_sized text 32)
+-- an address: 32 bytes written as 64 hexadecimal digits of either case
+abbrev pub address_of : List ℕ → Option (List ℕ)
+address_of text = result_ok (decode_sized text 32)
 
 -- an output of value siafunds to an address; a new output's claims start at 0
-abbrev pub fund_output : List ℕ → ℕ → FundOutput
-fund_output address value = record { value = value; address = address; claim_start = 0 }
+abbrev pub fund_of_entry : List ℕ → ℕ → FundOutput
+fund_of_entry address value = record { value = value; address = address; claim_start = 0 }
 
 -- one table of `chain.siafund`: an address `to`, and a `value` from 1 to 10,000
 abbrev pub siafund_of : Data → Option FundOutput
 siafund_of d =
     option_and_then
-    (λ address. option_map (fund_output address) (between 1 10000 (option_and_then as_integer (get (codes "value") d))))
-    (option_and_then hash_of (option_and_then as_str (get (codes "to") d)))
+    (λ address. option_map (fund_of_entry address) (between 1 10000 (option_and_then as_integer (get (codes "value") d))))
+    (option_and_then address_of (option_and_then as_str (get (codes "to") d)))
 
 -- each of some tables, in order, if none of them is refused
 abbrev pub siafunds_of_items : Items → Option (List FundOutput)
@@ -81,10 +81,3 @@ config_of bytes = do
   maturity ← ok_or (maturity_of doc) (Key Maturity)
   funds ← ok_or (siafunds_of doc) (Key Siafund)
   Ok (record { maturity = maturity; funds = funds })
-
--- the code's answer, seen through view, is the definition's, unless memory ran out
-abbrev pub Gives : {X A : Type 0} → (X → A) → Result X ConfigFault → Result A ConfigFault → Type 0
-Gives view (Ok x) read = read ≡ Ok (view x)
-Gives view (Err Memory) read = Unit {0}
-Gives view (Err Text) read = read ≡ Err Text
-Gives view (Err (Key key)) read = read ≡ Err (Key key)

@@ -1,7 +1,11 @@
 pub mod Answer
+pub mod Commands
 pub mod Config
 pub mod Feed
 pub mod Form
+pub mod Inputs
+pub mod Lines
 pub mod Outcome
-pub mod Steps
-pub mod Texts
+pub mod Streams
+pub mod Told
+pub mod Words

@@ -3,8 +3,10 @@
 ghost use Rattle.std.specs.Prelude.{length, sum_by, ◌*◌, ◌<◌, ◌^◌, ◌≤◌, ◌≡◌, IfOk, IfErr, ◌++◌, option_map};
 ghost use Rattle.std.specs.Option.{ok_or};
 ghost use Rattle.toml.specs.View.{view, array_view, items_view};
+ghost use Rattle.sia_encoding.specs.Answer.{Answers};
 ghost use Rattle.sia_ledger.specs.Refusal.{genesis_refusal};
-ghost use Rattle.sia_program.specs.Config.{document, chain_key, between, integer_or, maturity_of, hash_of, siafund_of, siafunds_of_items, siafund_sum, is_whole_issue as is_whole_issue_of, siafunds_of, config_of, Gives};
+ghost use Rattle.sia_program.specs.Told.{config_told};
+ghost use Rattle.sia_program.specs.Config.{document, chain_key, between, integer_or, maturity_of, address_of, siafund_of, siafunds_of_items, siafund_sum, is_whole_issue as is_whole_issue_of, siafunds_of, config_of};
 
 use hex::FromHex;
 use sia_blake::Hash;
@@ -69,8 +71,8 @@ fn maturity(document: &Value) -> Option<u64>
     integer_key(document, "maturity", 144, 1, 10_000)
 }
 
-fn hash(text: &str) -> Option<Hash>
-    ensures { result ≡ hash_of text.now }
+fn address(text: &str) -> Option<Hash>
+    ensures { result ≡ address_of text.now }
 {
     <[u8; 32] as FromHex>::from_hex(text).ok()
 }
@@ -78,7 +80,7 @@ fn hash(text: &str) -> Option<Hash>
 fn siafund(table: &Value) -> Option<FundOutput>
     ensures { result ≡ siafund_of (view table.now) }
 {
-    let address = hash(table.get("to")?.as_str()?)?;
+    let address = address(table.get("to")?.as_str()?)?;
     let value = in_range(table.get("value")?.as_integer(), 1, 10_000)?;
     Some(FundOutput {
         value: u128::from(value),
@@ -88,7 +90,7 @@ fn siafund(table: &Value) -> Option<FundOutput>
 }
 
 fn siafund_list(alloc: Global, tables: &[Value]) -> Result<List<FundOutput>, ConfigFault>
-    ensures { Gives (λ value. value) result (ok_or (siafunds_of_items (items_view tables.now)) (ConfigFault.Key ConfigKey.Siafund)) }
+    ensures { Answers (λ value. value) config_told result (ok_or (siafunds_of_items (items_view tables.now)) (ConfigFault.Key ConfigKey.Siafund)) }
 {
     let mut funds = List::new(alloc);
     for table in tables {
@@ -118,7 +120,7 @@ fn is_whole_issue(funds: &[FundOutput]) -> bool
 }
 
 fn siafunds(alloc: Global, document: &Value) -> Result<List<FundOutput>, ConfigFault>
-    ensures { Gives (λ value. value) result (ok_or (siafunds_of (view document.now)) (ConfigFault.Key ConfigKey.Siafund)) }
+    ensures { Answers (λ value. value) config_told result (ok_or (siafunds_of (view document.now)) (ConfigFault.Key ConfigKey.Siafund)) }
 {
     let refused = ConfigFault::Key(ConfigKey::Siafund);
     let Some(value) = chain_value(document, "siafund") else {
@@ -136,7 +138,7 @@ fn siafunds(alloc: Global, document: &Value) -> Result<List<FundOutput>, ConfigF
 }
 
 fn parse(alloc: Global, bytes: &[u8]) -> Result<Value, ConfigFault>
-    ensures { Gives view result (ok_or (document bytes.now) ConfigFault.Text) }
+    ensures { Answers view config_told result (ok_or (document bytes.now) ConfigFault.Text) }
 {
     match toml::table_from_slice(alloc, bytes) {
         Ok(table) => Ok(Value::Table(table)),
@@ -158,7 +160,7 @@ fn parse(alloc: Global, bytes: &[u8]) -> Result<Value, ConfigFault>
 /// The genesis of parameters that are accepted is refused for want of memory alone. The first refusal is told: [`ConfigFault::Text`], then the keys in the order of [`ConfigKey`].
 #[tactic(auto, unfolding(crate::specs::Config::config_of))]
 pub fn read_config(alloc: Global, bytes: &[u8]) -> Result<Params, ConfigFault>
-    ensures exact { Gives (λ value. value) result (config_of bytes.now) }
+    ensures exact { Answers (λ value. value) config_told result (config_of bytes.now) }
     ensures founds { IfOk result (λ params. genesis_refusal params ≡ None) }
 {
     let document = parse(alloc, bytes)?;

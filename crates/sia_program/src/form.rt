@@ -1,7 +1,10 @@
-//! The forms that the words of a command may have.
+//! The forms that the words of a command may have, and which of their words name files.
 ghost use Rattle.std.specs.Prelude.{◌≡◌};
-ghost use Rattle.sia_program.specs.Form.{begins_otherwise, form_of, number_of};
+ghost use Rattle.sia_program.specs.Form.{form_of, files_of};
 
+use crate::commands::ledger::{LEDGER_FILES, ledger_form};
+use crate::commands::prove::{PROVE_FILES, prove_form};
+use crate::commands::root::{ROOT_FILES, root_form};
 use sia_encoding::Blob;
 
 /// A command and what its words name.
@@ -20,27 +23,25 @@ pub enum Form {
     },
 }
 
-/// Whether a sign, or a zero before other digits, stands at the front of a word.
-fn has_sign_or_zeros(word: &[u8]) -> bool
-    ensures { result ≡ begins_otherwise word.now }
-{
-    match word {
-        [b'+', ..] => true,
-        [b'0', _, ..] => true,
-        _ => false,
-    }
+/// Which words of a form name files, by their places behind the program's name: the command's own word has place 0.
+#[derive(Clone, Copy)]
+pub struct FilePlaces {
+    /// The word that names the configuration, if the form has one.
+    pub config: Option<usize>,
+    /// The word that names the feed or the file that is read, if the form has one.
+    pub input: Option<usize>,
 }
 
-/// The number that a word is the decimal text of: digits without a leading zero. It is below 2^64.
-fn read_number(word: &[u8]) -> Option<u64>
-    ensures { result ≡ number_of word.now }
-{
-    if has_sign_or_zeros(word) {
-        return None;
-    }
-    match str::from_utf8(word) {
-        Ok(text) => text.parse::<u64>().ok(),
-        Err(_) => None,
+impl Form {
+    /// Which of its words name files.
+    pub fn files(&self) -> FilePlaces
+        ensures { result ≡ files_of self.now }
+    {
+        match self {
+            Form::Ledger => LEDGER_FILES,
+            Form::Root => ROOT_FILES,
+            Form::Prove { start: _, end: _ } => PROVE_FILES,
+        }
     }
 }
 
@@ -48,31 +49,7 @@ fn read_number(word: &[u8]) -> Option<u64>
 pub fn read_form(words: &[Blob]) -> Option<Form>
     ensures { result ≡ form_of words.now }
 {
-    match words {
-        [command, _] => {
-            if command.as_slice() == b"root".as_slice() {
-                Some(Form::Root)
-            } else {
-                None
-            }
-        }
-        [command, _, _] => {
-            if command.as_slice() == b"ledger".as_slice() {
-                Some(Form::Ledger)
-            } else {
-                None
-            }
-        }
-        [command, _, start, end] => {
-            if command.as_slice() == b"prove".as_slice() {
-                Some(Form::Prove {
-                    start: read_number(start.as_slice())?,
-                    end: read_number(end.as_slice())?,
-                })
-            } else {
-                None
-            }
-        }
-        _ => None,
-    }
+    ledger_form(words)
+        .or(root_form(words))
+        .or(prove_form(words))
 }

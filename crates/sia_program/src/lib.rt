@@ -1,36 +1,58 @@
 //! The commands of `sia-v1`, from the bytes that come in to the bytes that go out.
 //!
-//! [`run_plain`] runs the command that the words name over sources and sinks, and answers its status. It promises:
+//! The words, texts, statuses and the configuration are this product's own; the rules behind them are those of the Sia
+//! whitepaper and of siad's documentation (doc/Consensus.md, doc/Encoding.md), each named where it is defined. A command is a
+//! module of `commands`, with its definitions in a file of `specs/Commands`: its form, its files, its text and what it gives for
+//! the bytes that it reads.
 //!
-//! - The words have one form or none ([`read_form`], specs/Form.antt). Over told bytes, one definition for each form
-//!   (specs/Outcome.antt) says what is printed, or why nothing is:
-//!   - `ledger`: the configuration ([`config::read_config`], specs/Config.antt), the feed ([`read_feed`],
-//!     specs/Feed.antt), its records applied and reverted in turn, and the text of the sums ([`sums_text`],
-//!     specs/Texts.antt);
-//!   - `root`: the Merkle root of a file, the count of its leaves and that of its bytes ([`root_text`]). No
-//!     configuration is read;
-//!   - `prove`: that root, and the hashes that prove a range of the leaves ([`prove_text`]). No configuration is read.
-//! - The status is that of this outcome unless a call of the outside failed or memory ran out. Standard output took exactly
-//!   the text, or nothing, or a front part after a failed call; standard error took exactly the status's line, or a front
-//!   part where its own write failed (specs/Answer.antt).
-//! - An accepted configuration begins a chain that nothing but want of memory refuses.
+//! ```
+//! let mut config = FileSource::empty();
+//! let mut input = FileSource::open(&rt, "sector".as_bytes());
+//! let status = run_plain(alloc, words.as_slice(), &mut config, &mut input, &mut out, &mut err);
+//! ```
 //!
-//! It stands on sia_ledger for the chain, on sia_merkle for the root of a file, on sia_range for the
-//! proof of a range, on sia_edge for sources and sinks, on sia_encoding for the feed's bytes, and on the
-//! kit's `toml` and `hex` for the configuration. The program itself is the crate `sia_v1`.
+//! # Promises
+//!
+//! - The words have one form or none ([`read_form`]), and one table says which of a form's words name files
+//!   ([`Form::files`]).
+//! - [`run_plain`] ends with status 1 exactly where the words have no form. Else there is one definition for each form
+//!   (specs/Outcome.antt) of what its bytes give, a text or why there is none, and the status is that of this outcome unless a
+//!   call of the outside failed or memory ran out. Standard output took exactly the text, or nothing, or a front part after a
+//!   failed call; standard error took exactly the status's line, or a front part where its own write failed
+//!   (specs/Answer.antt).
+//! - Status 0 of [`run_plain`] means that each file that the words name was read to its end. Status 3 has its cause in a fault
+//!   of such a file or of standard output, and comes from no other. A source that the words don't name isn't touched.
+//! - The texts are exact: the sums of a chain ([`sums_text`]), the root of a file with its leaves and bytes ([`root_text`]), the
+//!   hashes that prove a range of its leaves ([`prove_text`]), and the line of each refusal ([`refused_line`]).
+//! - A configuration is read to the chain's parameters or to its first refusal ([`config::read_config`]); an accepted one
+//!   begins a chain that nothing but want of memory refuses. A feed is read to its records or refused ([`read_feed`]).
+//! - A refusal of a block holds a rule, and never want of memory ([`BrokenRule`]).
+//!
+//! # Stands on
+//!
+//! `sia_encoding` for the feed's bytes and for how answers are spoken of, `sia_edge` for sources and sinks, `sia_blake` for
+//! hashes, `sia_merkle` for the root of a file, `sia_range` for the proof of a range, `sia_types` for records, `sia_ids` and
+//! `sia_rules` for the identifiers and amounts that texts and configurations speak of, `sia_ledger` for the chain, and the kit's `toml` and `hex` for the configuration.
 #![tactic(auto)]
 
+mod commands;
 pub mod config;
 mod feed;
 mod form;
+mod input;
+mod lines;
 mod plain;
-mod range;
-mod run;
+mod rule;
 mod stop;
-mod texts;
+mod telling;
+mod words;
 
-pub use feed::{Entry, read_feed};
-pub use form::{Form, read_form};
+pub use commands::ledger::sums_text;
+pub use commands::prove::prove_text;
+pub use commands::root::root_text;
+pub use feed::{FeedRecord, read_feed};
+pub use form::{FilePlaces, Form, read_form};
 pub use plain::run_plain;
+pub use rule::BrokenRule;
 pub use stop::{Fault, Refusal, Stop};
-pub use texts::{prove_text, refused_line, root_text, sums_text};
+pub use telling::refused_line;

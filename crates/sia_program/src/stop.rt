@@ -2,8 +2,8 @@
 ghost use Rattle.std.specs.Prelude.{◌≡◌};
 
 use crate::config::{ConfigFault, ConfigKey};
+use crate::rule::BrokenRule;
 use sia_encoding::DecodeFault;
-use sia_ledger::BlockFault;
 use std::alloc::AllocError;
 
 /// What is refused of the configuration or the input.
@@ -20,7 +20,7 @@ pub enum Refusal {
         /// The height of the tip that it was to follow.
         tip_height: u64,
         /// The first rule that it breaks.
-        fault: BlockFault,
+        rule: BrokenRule,
     },
     /// A revert of the feed, at the genesis.
     NoBlock,
@@ -61,7 +61,7 @@ impl From<AllocError> for Fault {
 }
 
 impl From<DecodeFault> for Fault {
-    ghost use Rattle.sia_program.specs.Steps.{decode_fault_told};
+    ghost use Rattle.sia_program.specs.Told.{decode_fault_told};
 
     ghost from_gives = { λ fault made. made ≡ decode_fault_told fault };
 
@@ -84,7 +84,7 @@ impl From<AllocError> for Stop {
 }
 
 impl From<ConfigFault> for Stop {
-    ghost use Rattle.sia_program.specs.Steps.{config_stop};
+    ghost use Rattle.sia_program.specs.Told.{config_stop};
 
     ghost from_gives = { λ fault made. made ≡ config_stop fault };
 
@@ -98,7 +98,7 @@ impl From<ConfigFault> for Stop {
 }
 
 impl From<Fault> for Stop {
-    ghost use Rattle.sia_program.specs.Steps.{fault_stop};
+    ghost use Rattle.sia_program.specs.Told.{fault_stop};
 
     ghost from_gives = { λ fault made. made ≡ fault_stop fault };
 

@@ -6,7 +6,7 @@ use Rattle.std.proofs.lemmas.List.{length-take-le, take_all, take_at, drop_at, t
 use Rattle.sia_merkle.specs.Roots.{leaf_count, leaves_of}
 use Rattle.sia_merkle.proofs.Cuts.{leaves-take, leaves-drop, length-leaves}
 use Rattle.sia_range.specs.Ranges.{part_between, replaced}
-use Rattle.sia_range.proofs.Soundness.{no_elements}
+use Rattle.sia_cover.proofs.Soundness.{no_elements}
 
 front_by : (bytes : List ℕ) (count : ℕ) → (more : Bool) → nat_lt count (leaf_count (length bytes)) ≡ more → leaves_of (take (64 * count) bytes) ≡ take count (leaves_of bytes)
 front_by bytes count true e = leaves-take bytes count (ltb-true _ _ e)

@@ -1,63 +1,42 @@
 -- What the checks of a range answer.
-use Rattle.std.proofs.Common.{◌≡◌, ◌≢◌, ℕ, zero, suc, ◌+◌, ◌-◌, ◌*◌, ◌^◌, ◌<◌, ◌≤◌, true, false, List, [], ◌∷◌, length, map, take, drop, refl, sym, ◌∙◌, ap, arith, min}
-use Rattle.std.specs.Prelude.{Bool, nat_eq, nat_le, IsTrue, ◌↔◌, count_by}
+use Rattle.std.proofs.Common.{◌≡◌, ℕ, zero, suc, ◌+◌, ◌-◌, ◌*◌, ◌^◌, ◌<◌, ◌≤◌, true, false, List, [], ◌∷◌, length, map, take, drop, refl, sym, ◌∙◌, ap, arith, min, length-take}
+use Rattle.std.specs.Prelude.{Bool, nat_le, ◌↔◌, count_by}
 use Rattle.std.specs.List.{range_with_len}
-use Rattle.std.specs.Cmp.Lexicographic.{pointwise, same_text, other_text}
 use Rattle.std.proofs.lemmas.Bool.{leb-true, leb-false}
 use Rattle.std.proofs.lemmas.List.{length-map, take-map, drop-map, take_min}
 use Rattle.sia_merkle.specs.Computations.{Tree, hash_of}
 use Rattle.sia_merkle.specs.Computations.Tree.{Given, Leaf}
-use Rattle.sia_merkle.specs.Roots.{first_hash, leaf_count, leaf_digest, leaves_of, node_digest, root_of}
-use Rattle.sia_merkle.specs.Segments.{cover, cover_within, is_covered, others, places_between, places_within, first_tree, joined_within, segment_root}
+use Rattle.sia_merkle.specs.Roots.{first_hash, leaf_count, leaf_digest, leaves_of, node_digest, node_root_of, root_of, tree_root}
+use Rattle.sia_merkle.specs.Segments.{cover_within, is_covered, others, places_between, places_within, first_tree, joined_within, joined_segments_within}
 use Rattle.sia_merkle.proofs.Cuts.{hashes-drop}
-use Rattle.sia_merkle.proofs.Trees.{segment_root-is}
-use Rattle.sia_range.specs.Ranges.{range_tree, IsRangeProof}
+use Rattle.sia_merkle.proofs.Trees.{node_root_of-at}
+use Rattle.sia_range.specs.Ranges.{range_tree, segments_tree, IsRangeProof, IsUpdateOf}
+use Rattle.sia_cover.specs.Joined.{JoinTo, SegmentsJoinTo}
 use Rattle.sia_range.proofs.ByteLeaves.{front}
-use Rattle.sia_range.proofs.Covers.{cover_at, power_above}
-use Rattle.sia_range.proofs.Joins.{count_between, join_at, join_given, join_low, join_node, hash_of_node}
-
-when_told : (bytes : List ℕ) (answer : Bool) → answer ≡ pointwise nat_eq bytes bytes → pointwise nat_eq bytes bytes ≡ true
-when_told bytes true e = sym e
-when_told bytes false e = absurd (other_text bytes bytes e refl)
-
--- a text is one with itself
-pub one_text : (bytes other : List ℕ) → bytes ≡ other → pointwise nat_eq bytes other ≡ true
-one_text bytes other is = ap (λ b. pointwise nat_eq b other) is ∙ when_told other (pointwise nat_eq other other) refl
-
-pub cover_count : (count a b : ℕ) → a < b → b ≤ count → count < 2 ^ 64 → length (cover (others (places_between a b)) count) ≡ length (cover_within (others (places_between a b)) count 64 0)
-cover_count count a b some within fits = ap length (cover_at (others (places_between a b)) count 64 (omega arith) (omega arith))
-
--- the computation of a root, from a height that all places fit
-pub range_tree_at : (count a b : ℕ) (inner : List Tree) (outer : List (List ℕ)) → a < b → b ≤ count → count < 2 ^ 64
-    → range_tree count a b inner outer ≡ joined_within (places_between a b) count 64 0 (drop (0 - a) inner) outer
-unfolding range_tree
-range_tree_at count a b inner outer some within fits =
-    let none : 0 ≡ 0 - a = omega arith in
-    join_at (places_between a b) count 64 inner outer (omega arith) (omega arith) ∙ ap (λ n. joined_within (places_between a b) count 64 0 (drop n inner) outer) none
+use Rattle.sia_range.proofs.RangePlaces.{count_between}
+use Rattle.sia_cover.proofs.Covers.{power_above}
+use Rattle.sia_cover.proofs.Joins.{join_given, join_low, join_node, hash_of_node}
 
 pub joined_is : (count a b : ℕ) (inner : List Tree) (outer : List (List ℕ)) → range_tree count a b inner outer ≡ joined_within (places_between a b) count count 0 inner outer
 unfolding range_tree
 joined_is count a b inner outer = refl
 
+pub segments_tree_is : (count a b : ℕ) (inner outer : List (List ℕ)) → segments_tree count a b inner outer ≡ joined_segments_within (places_between a b) count count 0 inner outer
+unfolding segments_tree
+segments_tree_is count a b inner outer = refl
+
 pub inner_count : (count a b : ℕ) (inner : List Tree) → a < b → b ≤ count → length inner ≡ b - a → length inner ≡ count_by (places_between a b) (range_with_len 0 count)
 inner_count count a b inner some within fits = fits ∙ sym (count_between a b 0 count ∙ (omega arith))
 
-pub judged : (root found : List ℕ) (count a b : ℕ) (inner : List Tree) (outer : List (List ℕ)) (answer : Bool) → a < b → b ≤ count → count < 2 ^ 64 → length inner ≡ b - a
-    → length outer ≡ length (cover_within (others (places_between a b)) count 64 0) → found ≡ hash_of (joined_within (places_between a b) count 64 0 (drop (0 - a) inner) outer)
-    → answer ≡ pointwise nat_eq found root → IsTrue answer ↔ IsRangeProof root count a b inner outer
-judged root found count a b inner outer answer some within fits inner_fits outer_fits is told =
-    let tree : hash_of (range_tree count a b inner outer) ≡ found = ap hash_of (range_tree_at count a b inner outer some within fits) ∙ sym is in (
-      (λ yes. record {
-        joins = record { places = inner_count count a b inner some within inner_fits; segments = outer_fits ∙ sym (cover_count count a b some within fits); joined = joined_is count a b inner outer };
-        gives = tree ∙ same_text found root (sym (sym told ∙ yes));
-      }),
-      (λ proof. told ∙ one_text found root (sym tree ∙ proof.gives)),
-    )
+-- what joins at the places of a range is a proof of it
+pub of_joins : (root : List ℕ) (count a b : ℕ) (inner : List Tree) (outer : List (List ℕ)) → JoinTo (places_between a b) count inner outer root ↔ IsRangeProof root count a b inner outer
+unfolding range_tree
+of_joins root count a b inner outer = ((λ join. record { joins = join.0; gives = join.1 }), (λ proof. (proof.joins, proof.gives)))
 
-pub misjudged : (root : List ℕ) (count a b : ℕ) (inner : List Tree) (outer : List (List ℕ)) → a < b → b ≤ count → count < 2 ^ 64
-    → length outer ≢ length (cover_within (others (places_between a b)) count 64 0) → IsTrue false ↔ IsRangeProof root count a b inner outer
-misjudged root count a b inner outer some within fits apart =
-    ((λ yes. absurd (let no : false ≡ true = yes in cc)), (λ proof. absurd (apart (proof.joins.segments ∙ cover_count count a b some within fits))))
+-- and the roots of both covers are an update of it
+pub of_segments : (root : List ℕ) (count a b : ℕ) (inner outer : List (List ℕ)) → SegmentsJoinTo (places_between a b) count inner outer root ↔ IsUpdateOf root count a b inner outer
+unfolding segments_tree
+of_segments root count a b inner outer = ((λ join. record { joins = join.0; gives = join.1 }), (λ proof. (proof.joins, proof.gives)))
 
 -- only the hashes of what stands at the places show in the join's hash
 first_hashes : (first second : List Tree) → map hash_of first ≡ map hash_of second → hash_of (first_tree first) ≡ hash_of (first_tree second)
@@ -132,16 +111,18 @@ of_leaves root count a b leaves hashes = (
 pub front_leaves : (bytes : List ℕ) (count : ℕ) → map leaf_digest (leaves_of (take (64 * count) bytes)) ≡ take count (map leaf_digest (leaves_of bytes))
 front_leaves bytes count = ap (map leaf_digest) (front bytes count) ∙ sym (take-map leaf_digest count (leaves_of bytes))
 
--- the root over a segment of a byte string's leaves
-pub segment_of_leaves : (bytes rest segment : List ℕ) (level index width len : ℕ) → (index + 1) * 2 ^ level ≤ leaf_count (length bytes) → width ≡ 2 ^ level
-    → rest ≡ drop (index * width * 64) bytes → len ≡ min (64 * width) (length rest) → segment ≡ take len rest
-    → root_of (leaves_of segment) ≡ segment_root (map leaf_digest (leaves_of bytes)) level index
-segment_of_leaves bytes rest segment level index width len within wide rest_is len_is segment_is =
-    let product : (index + 1) * 2 ^ level ≡ index * 2 ^ level + 2 ^ level = omega arith in
-    let before : index * 2 ^ level < leaf_count (length bytes) = omega (arith, power_above level) in
-    let turned : index * 2 ^ level * 64 ≡ 64 * (index * 2 ^ level) = omega arith in
-    let rest_at : rest ≡ drop (64 * (index * 2 ^ level)) bytes = rest_is ∙ ap (λ w. drop (index * w * 64) bytes) wide ∙ ap (λ n. drop n bytes) turned in
-    let segment_at : segment ≡ take (64 * 2 ^ level) rest = segment_is ∙ ap (λ n. take n rest) len_is ∙ take_min (64 * width) rest ∙ ap (λ w. take (64 * w) rest) wide in
-    segment_root-is (map leaf_digest (leaves_of bytes)) (map leaf_digest (leaves_of segment)) level index
-    (ap (λ b. map leaf_digest (leaves_of b)) segment_at ∙ front_leaves rest (2 ^ level)
-    ∙ ap (take (2 ^ level)) (ap (λ b. map leaf_digest (leaves_of b)) rest_at ∙ hashes-drop bytes (index * 2 ^ level) before))
+-- the root over part of a byte string's leaves
+pub part_of_leaves : (bytes rest part : List ℕ) (height place width len : ℕ) → place + 2 ^ height ≤ leaf_count (length bytes) → width ≡ 2 ^ height
+    → rest ≡ drop (place * 64) bytes → len ≡ min (64 * width) (length rest) → part ≡ take len rest
+    → root_of (leaves_of part) ≡ tree_root height (take (2 ^ height) (drop place (map leaf_digest (leaves_of bytes))))
+part_of_leaves bytes rest part height place width len within wide rest_is len_is part_is =
+    let before : place < leaf_count (length bytes) = omega (arith, power_above height) in
+    let turned : place * 64 ≡ 64 * place = omega arith in
+    let rest_at : rest ≡ drop (64 * place) bytes = rest_is ∙ ap (λ n. drop n bytes) turned in
+    let part_at : part ≡ take (64 * 2 ^ height) rest = part_is ∙ ap (λ n. take n rest) len_is ∙ take_min (64 * width) rest ∙ ap (λ w. take (64 * w) rest) wide in
+    let row = take (2 ^ height) (drop place (map leaf_digest (leaves_of bytes))) in
+    let is : map leaf_digest (leaves_of part) ≡ row =
+    ap (λ b. map leaf_digest (leaves_of b)) part_at ∙ front_leaves rest (2 ^ height)
+    ∙ ap (take (2 ^ height)) (ap (λ b. map leaf_digest (leaves_of b)) rest_at ∙ hashes-drop bytes place before) in
+    let fits : length row ≤ 2 ^ height = omega (arith, length-take (2 ^ height) (drop place (map leaf_digest (leaves_of bytes)))) in
+    ap node_root_of is ∙ node_root_of-at height row fits

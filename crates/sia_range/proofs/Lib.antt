@@ -1,14 +1,6 @@
 pub mod ByteLeaves
-pub mod Covers
-pub mod Joins
 pub mod Judging
 pub mod OwnAccepted
-pub mod OwnJoins
-pub mod OwnSegments
-pub mod OwnWholes
+pub mod RangePlaces
 pub mod RangeSoundness
-pub mod SameCovers
-pub mod SegmentJoins
-pub mod SegmentSoundness
-pub mod Soundness
 pub mod UpdateSoundness

@@ -1,18 +1,17 @@
 -- Who has a range, hashes or an update accepted that are not a list's own shows a collision.
-use Rattle.std.proofs.Common.{◌≡◌, ℕ, ◌-◌, ◌*◌, ◌^◌, ◌<◌, ◌≤◌, List, [], ◌∷◌, length, map, take, drop, refl, sym, ◌∙◌, ap, arith, inl, inr, length-drop}
+use Rattle.std.proofs.Common.{◌≡◌, ℕ, ◌-◌, ◌<◌, ◌≤◌, List, [], ◌∷◌, length, map, take, drop, refl, sym, ◌∙◌, ap, arith, inl, inr, length-drop}
 use Rattle.std.specs.Prelude.{◌⊎◌}
 use Rattle.std.proofs.lemmas.List.{length-map, length-take-le, take-map, drop-map}
-use Rattle.sia_merkle.specs.Computations.{Tree, hash_of, Collides}
+use Rattle.sia_merkle.specs.Computations.{AreHashes, Tree, hash_of, Collides}
 use Rattle.sia_merkle.specs.Computations.Tree.{Given, Leaf, Node}
 use Rattle.sia_merkle.specs.Roots.{leaf_count, leaf_digest, leaves_of, node_root_of, root_of}
-use Rattle.sia_merkle.specs.Segments.{Segment, cover, others, places_between, segment_root, segment_roots, joined_within, Joins}
+use Rattle.sia_merkle.specs.Segments.{cover, others, places_between, segment_root, joined_within, Joins}
 use Rattle.sia_merkle.proofs.Clashes.{leaf_digest-length}
 use Rattle.sia_merkle.proofs.Cuts.{length-leaves}
-use Rattle.sia_merkle.proofs.LeafSoundness.{AreSized, tree_root-length}
 use Rattle.sia_range.specs.Ranges.{range_tree, IsRangeProof, part_between, roots_outside, own_range_tree, own_nodes_tree}
 use Rattle.sia_range.proofs.Judging.{inner_count, joined_is, leaf_trees}
-use Rattle.sia_range.proofs.OwnWholes.{own_range_joins}
-use Rattle.sia_range.proofs.Soundness.{take_sized, drop_sized, given_sized, leaves_sized, given_shapes, leaf_shapes, joins_collide}
+use Rattle.sia_range.proofs.RangePlaces.{own_range_joins}
+use Rattle.sia_cover.proofs.Soundness.{roots_sized, take_sized, drop_sized, given_sized, leaves_sized, given_shapes, leaf_shapes, joins_collide}
 
 -- what stands in a leaf or is given
 stored : Tree → List ℕ
@@ -37,14 +36,9 @@ same_leaves : (leaves other : List (List ℕ)) → map Leaf leaves ≡ map Leaf 
 same_leaves leaves other same = sym (stored_leaves leaves) ∙ ap (map stored) same ∙ stored_leaves other
 
 -- hashes of 32 bytes
-pub digests_sized : (leaves : List (List ℕ)) → AreSized (map leaf_digest leaves)
+pub digests_sized : (leaves : List (List ℕ)) → AreHashes (map leaf_digest leaves)
 digests_sized [] = tt
 digests_sized (leaf ∷ leaves) = (leaf_digest-length leaf, digests_sized leaves)
-
-pub roots_sized : (hashes : List (List ℕ)) (segments : List Segment) → AreSized hashes → AreSized (segment_roots hashes segments)
-roots_sized hashes [] sized = tt
-roots_sized hashes (segment ∷ segments) sized =
-    (tree_root-length segment.level (take (2 ^ segment.level) (drop (segment.index * 2 ^ segment.level) hashes)) (take_sized (2 ^ segment.level) (drop (segment.index * 2 ^ segment.level) hashes) (drop_sized (segment.index * 2 ^ segment.level) hashes sized)), roots_sized hashes segments sized)
 
 -- a list's own part of a range
 pub part_length : {X : Type 0} (a b : ℕ) (list : List X) → a ≤ b → b ≤ length list → length (part_between a b list) ≡ b - a
@@ -86,7 +80,7 @@ leaves_by own leaves roots hashes tree other (inl same) = inl (sym (same_leaves 
 leaves_by own leaves roots hashes tree other (inr clash) = inr clash
 
 pub another_nodes : (list : List (List ℕ)) (root : List ℕ) (a b : ℕ) (nodes hashes : List (List ℕ)) → a < b → b ≤ length list → node_root_of list ≡ root
-    → AreSized list → AreSized nodes → AreSized hashes → IsRangeProof root (length list) a b (map Given nodes) hashes
+    → AreHashes list → AreHashes nodes → AreHashes hashes → IsRangeProof root (length list) a b (map Given nodes) hashes
     → ((nodes ≡ part_between a b list) × (hashes ≡ roots_outside list (length list) a b)) ⊎ Collides (own_nodes_tree list a b) (range_tree (length list) a b (map Given nodes) hashes)
 another_nodes list root a b nodes hashes some within is sized nodes_sized hashes_sized proof =
     let own = part_between a b list in
@@ -101,7 +95,7 @@ another_nodes list root a b nodes hashes some within is sized nodes_sized hashes
     (given_shapes own nodes counts) (own_nodes_root a b (length list) list (omega arith) within refl ∙ is ∙ sym proof.gives))
 
 pub another_range : (bytes root : List ℕ) (a b : ℕ) (leaves hashes : List (List ℕ)) → a < b → b ≤ leaf_count (length bytes) → root_of (leaves_of bytes) ≡ root
-    → AreSized hashes → IsRangeProof root (leaf_count (length bytes)) a b (map Leaf leaves) hashes
+    → AreHashes hashes → IsRangeProof root (leaf_count (length bytes)) a b (map Leaf leaves) hashes
     → ((leaves ≡ part_between a b (leaves_of bytes)) × (hashes ≡ roots_outside (map leaf_digest (leaves_of bytes)) (leaf_count (length bytes)) a b))
     ⊎ Collides (own_range_tree bytes a b) (range_tree (leaf_count (length bytes)) a b (map Leaf leaves) hashes)
 another_range bytes root a b leaves hashes some within is hashes_sized proof =

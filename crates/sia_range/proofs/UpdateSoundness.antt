@@ -4,18 +4,18 @@ use Rattle.std.proofs.Common.{◌≡◌, ℕ, ◌+◌, ◌-◌, ◌<◌, ◌≤�
 use Rattle.std.specs.Prelude.{Bool, nat_le, nat_lt, ◌⊎◌}
 use Rattle.std.proofs.lemmas.Bool.{leb-false, ltb-false}
 use Rattle.std.proofs.lemmas.List.{get_or-append_right, get_or_append_left, get_or-drop, get_or-take, length-map, length-take-le, map-append, take-map, drop-map, take_at, drop_at}
-use Rattle.sia_merkle.specs.Computations.{hash_of, Collides}
+use Rattle.sia_merkle.specs.Computations.{AreHashes, hash_of, Collides}
 use Rattle.sia_merkle.specs.Computations.Tree.{Leaf}
 use Rattle.sia_merkle.specs.Roots.{leaf_count, leaf_digest, leaves_of, node_root_of, root_of}
 use Rattle.sia_merkle.specs.Segments.{cover, others, places_between, joined_segments_within, segment_root, JoinsSegments}
 use Rattle.sia_merkle.proofs.Cuts.{length-leaf_hashes, length-leaves}
-use Rattle.sia_merkle.proofs.LeafSoundness.{AreSized}
 use Rattle.sia_range.specs.Ranges.{range_tree, segments_tree, IsOwnUpdate, IsUpdateOf, own_update_tree, part_between, replaced, roots_inside, roots_outside}
-use Rattle.sia_range.proofs.OwnSegments.{own_segments_whole}
-use Rattle.sia_range.proofs.RangeSoundness.{digests_sized, roots_sized, own_leaves_root}
-use Rattle.sia_range.proofs.SameCovers.{AgreeAt, roots_same}
-use Rattle.sia_range.proofs.SegmentJoins.{segments_tree_is}
-use Rattle.sia_range.proofs.SegmentSoundness.{segments_collide}
+use Rattle.sia_cover.proofs.OwnSegments.{own_segments_whole}
+use Rattle.sia_range.proofs.RangeSoundness.{digests_sized, own_leaves_root}
+use Rattle.sia_cover.proofs.Soundness.{roots_sized}
+use Rattle.sia_cover.proofs.SameCovers.{AgreeAt, roots_same}
+use Rattle.sia_range.proofs.Judging.{segments_tree_is}
+use Rattle.sia_cover.proofs.SegmentSoundness.{segments_collide}
 
 -- a list with a part replaced
 pub replaced_length : {X : Type 0} (a b : ℕ) (part list : List X) → a ≤ b → b ≤ length list → length part ≡ b - a → length (replaced a b part list) ≡ length list
@@ -100,7 +100,7 @@ update_by bytes new a b inner outer some within fits (inl same) = inl (record {
 update_by bytes new a b inner outer some within fits (inr clash) = inr clash
 
 pub another_update : (bytes root new : List ℕ) (a b : ℕ) (inner outer : List (List ℕ)) → a < b → b ≤ leaf_count (length bytes) → leaf_count (length new) ≡ b - a → root_of (leaves_of bytes) ≡ root
-    → AreSized inner → AreSized outer → IsUpdateOf root (leaf_count (length bytes)) a b inner outer
+    → AreHashes inner → AreHashes outer → IsUpdateOf root (leaf_count (length bytes)) a b inner outer
     → IsOwnUpdate bytes new a b inner outer ⊎ Collides (own_update_tree bytes a b) (segments_tree (leaf_count (length bytes)) a b inner outer)
 another_update bytes root new a b inner outer some within fits is ins outs proof =
     let count = leaf_count (length bytes) in

@@ -1,21 +1,10 @@
 -- Proofs of a range of places under the root of a tree: what stands at the places, and the roots of the largest subtrees
 -- that cover all other places (RHP2; `merkletree.BuildRangeProof` of Sia's Go library).
-use Rattle.std.specs.Prelude.{ℕ, ◌-◌, ◌≡◌, Bool, List, ◌++◌, length, map, take, drop}
+use Rattle.std.specs.Prelude.{ℕ, ◌-◌, ◌≡◌, List, ◌++◌, length, map, take, drop}
 use Rattle.sia_merkle.specs.Computations.{Tree, hash_of}
 use Rattle.sia_merkle.specs.Computations.Tree.{Given, Leaf}
 use Rattle.sia_merkle.specs.Roots.{leaf_count, leaf_digest, leaves_of, root_of}
 use Rattle.sia_merkle.specs.Segments.{cover, others, places_between, joined_within, joined_segments_within, segment_roots, Joins, JoinsSegments}
-use Rattle.sia_range.specs.declared.places.Side.{Side}
-use Rattle.sia_range.specs.declared.places.Side.TheVariants as side
-
--- the places from a to b, or all others
-abbrev pub places_on : Side → ℕ → ℕ → ℕ → Bool
-places_on side.Inside a b = places_between a b
-places_on side.Outside a b = others (places_between a b)
-
-abbrev pub opposite : Side → Side
-opposite side.Inside = side.Outside
-opposite side.Outside = side.Inside
 
 -- the computation of a root from what stands at the places from a to b, and the roots of the cover of all others
 unfoldable pub range_tree : ℕ → ℕ → ℕ → List Tree → List (List ℕ) → Tree
@@ -43,10 +32,11 @@ part_between a b list = take (b - a) (drop a list)
 abbrev pub replaced : {X : Type 0} → ℕ → ℕ → List X → List X → List X
 replaced a b part list = take a list ++ (part ++ drop b list)
 
--- the roots of the cover of the places from a to b of so many hashes, and those of the cover of all others
+-- the roots of the cover of the places from a to b of so many hashes
 abbrev pub roots_inside : List (List ℕ) → ℕ → ℕ → ℕ → List (List ℕ)
 roots_inside hashes count a b = segment_roots hashes (cover (places_between a b) count)
 
+-- the roots of the cover of all others
 abbrev pub roots_outside : List (List ℕ) → ℕ → ℕ → ℕ → List (List ℕ)
 roots_outside hashes count a b = segment_roots hashes (cover (others (places_between a b)) count)
 

@@ -1,10 +1,10 @@
 //! A byte string as the tree over its leaves.
-ghost use Rattle.std.specs.Prelude.{◌≡◌, ◌+◌, ◌*◌, ◌^◌, ◌<◌, ◌≤◌, length, map, take, drop};
-ghost use Rattle.sia_merkle.specs.Roots.{leaf_count, leaf_digest, leaves_of, root_of};
-ghost use Rattle.sia_merkle.specs.Segments.{segment_root};
+ghost use Rattle.std.specs.Prelude.{◌≡◌, ◌+◌, ◌^◌, ◌≤◌, length, map, take, drop};
+ghost use Rattle.sia_merkle.specs.Roots.{leaf_count, leaf_digest, leaves_of, tree_root};
 
 use sia_blake::Hash;
-use sia_merkle::{Nodes, leaves, root};
+use sia_cover::Row;
+use sia_merkle::{Nodes, leaves, power, root};
 
 /// The tree over the leaves of a byte string: each root is computed when it is asked for.
 #[derive(Clone, Copy)]
@@ -20,19 +20,33 @@ impl<'a> Nodes for LeafNodes<'a> {
     }
 
     fn node(&self, level: u32, index: u64) -> Hash {
-        root_of_segment(self.bytes, level, index)
+        // That the count fits 64 bits bounds the level.
+        let _count = self.bytes.len();
+        root_of_leaves(self.bytes, index * power(level), level)
     }
 }
 
-/// The root over the 2^`level` leaves from `index` * 2^`level` on.
-fn root_of_segment(bytes: &[u8], level: u32, index: u64) -> Hash
-    requires { (index + 1) * 2 ^ level ≤ leaf_count (length bytes.now) }
-    ensures { result ≡ segment_root (map leaf_digest (leaves_of bytes.now)) level index }
+impl<'a> Row for LeafNodes<'a> {
+    ghost hashes = { λ nodes. map leaf_digest (leaves_of nodes.bytes.now) };
+
+    fn len(&self) -> u64 {
+        leaves(self.bytes.len() as u64)
+    }
+
+    fn root_from(&self, place: u64, height: u32) -> Hash {
+        root_of_leaves(self.bytes, place, height)
+    }
+}
+
+/// The root over the 2^`height` leaves from `place` on.
+fn root_of_leaves(bytes: &[u8], place: u64, height: u32) -> Hash
+    requires { place + 2 ^ height ≤ leaf_count (length bytes.now) }
+    ensures { result ≡ tree_root height (take (2 ^ height) (drop place (map leaf_digest (leaves_of bytes.now)))) }
 {
-    // That the count fits 64 bits bounds the level.
+    // That the count fits 64 bits bounds the height.
     let _count = bytes.len();
-    let width = crate::places::power(level);
-    let (_, rest) = bytes.split_at((index * width) as usize * 64);
+    let width = power(height);
+    let (_, rest) = bytes.split_at(place as usize * 64);
     let len = (rest.len() as u64).min(width.saturating_mul(64));
     root(&rest[..len as usize])
 }

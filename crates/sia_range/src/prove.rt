@@ -1,14 +1,12 @@
 //! Makes the proof of a range: the roots of the subtrees that cover all other places.
 ghost use Rattle.std.specs.Prelude.{◌≡◌, ◌<◌, ◌≤◌, IfOk, length, map};
 ghost use Rattle.sia_merkle.specs.Roots.{leaf_count, leaf_digest, leaves_of};
-ghost use Rattle.sia_merkle.specs.Segments.{cover, segment_roots};
-ghost use Rattle.sia_range.specs.Ranges.{places_on, roots_inside, roots_outside};
+ghost use Rattle.sia_range.specs.Ranges.{roots_inside, roots_outside};
 
-use crate::check::HEIGHT;
-use crate::cover::append_cover;
+use crate::between::Between;
 use crate::leaf_nodes::LeafNodes;
-use crate::places::{Places, Side};
 use sia_blake::Hash;
+use sia_cover::{Others, cover_roots};
 use sia_encoding::List;
 use sia_merkle::Nodes;
 use sia_types::UpdateProof;
@@ -35,7 +33,7 @@ pub fn prove_nodes<N: Nodes>(
     requires within { b ≤ length (N.hashes nodes.now) }
     ensures { IfOk result (λ hashes. hashes ≡ roots_outside (N.hashes nodes.now) (length (N.hashes nodes.now)) a b) }
 {
-    cover_roots(alloc, nodes, a, b, Side::Outside)
+    cover_roots(alloc, nodes, &Others(&Between { start: a, end: b }))
 }
 
 /// The proof of an update of the leaves at the places from `a` to `b` of a byte string: the roots of the largest subtrees
@@ -47,29 +45,8 @@ pub fn prove_update(alloc: Global, bytes: &[u8], a: u64, b: u64) -> Result<Updat
     ensures outer { IfOk result (λ proof. proof.outer ≡ roots_outside (map leaf_digest (leaves_of bytes.now)) (leaf_count (length bytes.now)) a b) }
 {
     let nodes = LeafNodes { bytes };
-    let inner = cover_roots(alloc, &nodes, a, b, Side::Inside)?;
-    let outer = cover_roots(alloc, &nodes, a, b, Side::Outside)?;
+    let places = Between { start: a, end: b };
+    let inner = cover_roots(alloc, &nodes, &places)?;
+    let outer = cover_roots(alloc, &nodes, &Others(&places))?;
     Ok(UpdateProof { inner, outer })
-}
-
-/// The roots of the cover of one side of a range.
-fn cover_roots<N: Nodes>(
-    alloc: Global,
-    nodes: &N,
-    a: u64,
-    b: u64,
-    side: Side,
-) -> Result<List<Hash>, AllocError>
-    requires some { a < b }
-    requires within { b ≤ length (N.hashes nodes.now) }
-    ensures { IfOk result (λ hashes. hashes ≡ segment_roots (N.hashes nodes.now) (cover (places_on side a b) (length (N.hashes nodes.now)))) }
-{
-    let places = Places {
-        count: nodes.count(),
-        start: a,
-        end: b,
-    };
-    let mut roots = List::new(alloc);
-    append_cover(&mut roots, nodes, places, side, HEIGHT, 0)?;
-    Ok(roots)
 }

@@ -3,9 +3,9 @@
 #![tactic(auto)]
 
 #[cfg(test)]
-mod ledger;
+mod call;
 #[cfg(test)]
-mod memory;
+mod ledger;
 #[cfg(test)]
 mod prove;
 #[cfg(test)]

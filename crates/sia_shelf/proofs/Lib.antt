@@ -1,3 +1,4 @@
 mod Finding
 mod Marking
+mod Tallying
 mod Tearing

@@ -5,8 +5,9 @@ use Rattle.std.proofs.lemmas.List.{get_or_past, get_or-replicate, length-replica
 use Rattle.std.proofs.lemmas.Nat.{pow_pos}
 use Rattle.std.proofs.Math.ListN.{get_or-map}
 use Rattle.std.proofs.Math.Nat.{pow-le-pow_right}
-use Rattle.sia_edge.specs.Disk.{Follows}
-use Rattle.sia_shelf.specs.Slots.{IsSectorSize, InEach, KeepsOthers, end_of}
+use Rattle.sia_edge.specs.Disk.{Standing, Changes, EachImage, Leaves}
+use Rattle.sia_edge.proofs.Runs.{weaken}
+use Rattle.sia_shelf.specs.Slots.{IsSectorSize, Has, KeepsOthers, end_of}
 use Rattle.sia_shelf.specs.Shelf.{IsShelf, LowerTaken, mark_of, settled}
 use Rattle.sia_shelf.specs.declared.mark.Mark.{Mark}
 use Rattle.sia_shelf.specs.declared.mark.Mark.TheVariants as mark
@@ -52,7 +53,7 @@ longer_fits sector marks old new shelf longer = record {
   fits = λ at taken. let before = shelf.fits at taken in omega (arith, before, longer);
 }
 
-mark_of-free : (slots slot : ℕ) → mark_of (replicate slots mark.Free) slot ≡ mark.Free
+pub mark_of-free : (slots slot : ℕ) → mark_of (replicate slots mark.Free) slot ≡ mark.Free
 mark_of-free slots slot = elim (cases_lt slot slots) [
   | inl lt ↦ get_or-replicate slots slot mark.Free mark.Free lt
   | inr le ↦ get_or_past (replicate slots mark.Free) slot mark.Free (omega (arith, le, length-replicate slots mark.Free))
@@ -82,10 +83,10 @@ begins_within sector slot end marks shelf lower = elim (cases_lt 0 slot) [
 ]
 
 -- A write of a free slot keeps what the live ones hold.
-pub keeps_live : (sector slot : ℕ) (marks : List Mark) (put : List ℕ) (old new : List ℕ → Type 0) → length put ≡ sector
-    → mark_of marks slot ≡ mark.Free → Follows (KeepsOthers (length put) slot) old new
-    → (at : ℕ) (bytes : List ℕ) → mark_of marks at ≡ mark.Live → InEach sector at bytes old → InEach sector at bytes new
-keeps_live sector slot marks put old new size free follows at bytes live each = λ image left.
-    let P : ℕ → Type 0 = λ k. Follows (KeepsOthers k slot) old new in
-    let from = (subst P size follows) image left in
-    from.2 at bytes (λ same. let clash : mark.Live ≡ mark.Free = sym live ∙ ap (mark_of marks) same ∙ free in cc) (each from.0 from.1)
+pub keeps_live : {old new : Standing} (sector slot : ℕ) (marks : List Mark) (put : List ℕ) → length put ≡ sector
+    → mark_of marks slot ≡ mark.Free → Changes (KeepsOthers (length put) slot) old new
+    → (at : ℕ) (bytes : List ℕ) → mark_of marks at ≡ mark.Live → EachImage (Has sector at bytes) old → Leaves (Has sector at bytes) old new
+keeps_live {old} {new} sector slot marks put size free changes at bytes live each =
+    let P : ℕ → Type 0 = λ k. Changes (KeepsOthers k slot) old new in
+    weaken (subst P size changes) (λ image from.
+    from.2 at bytes (λ same. let clash : mark.Live ≡ mark.Free = sym live ∙ ap (mark_of marks) same ∙ free in cc) (each from.0 from.1))

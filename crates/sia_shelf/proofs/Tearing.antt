@@ -5,7 +5,8 @@ use Rattle.std.proofs.lemmas.List.{take-take, drop-take, drop-drop, length-take,
 use Rattle.std.proofs.Math.Nat.{mul-le-mul_right}
 use Rattle.sia_edge.specs.declared.disk.Did.{Did}
 use Rattle.sia_edge.specs.declared.disk.Did.TheVariants as did
-use Rattle.sia_edge.specs.Disk.{Torn, Follows, Overwrites}
+use Rattle.sia_edge.specs.Disk.{Standing, Torn, Changes, Overwrites}
+use Rattle.sia_edge.proofs.Runs.{weaken}
 use Rattle.sia_edge.proofs.Tears.{torn_all}
 use Rattle.sia_shelf.specs.Slots.{Has, KeepsOthers}
 
@@ -71,8 +72,6 @@ module _ (slot place : ℕ) (bytes : List ℕ) (at : place ≡ slot * length byt
       slot_torn old new some (subst P (sym written) (torn_all place bytes old inside))
   write_keeps_others did.Failed old new some inside torn = slot_torn old new some torn
 
-  pub images_keep_others : (old new : List ℕ → Type 0) → 0 < length bytes → Follows (Torn place (length bytes)) old new
-      → Follows (KeepsOthers (length bytes) slot) old new
-  images_keep_others old new some follows = λ image left.
-      let from = follows image left in
-      (from.0, from.1, slot_torn from.0 image some from.2)
+  pub images_keep_others : {old new : Standing} → 0 < length bytes → Changes (Torn place (length bytes)) old new
+      → Changes (KeepsOthers (length bytes) slot) old new
+  images_keep_others some changes = weaken changes (λ image from. (from.0, from.1, slot_torn from.0 image some from.2))

@@ -1,8 +1,8 @@
--- A shelf as contracts see it: its disk, the size of a sector, and a mark for each slot.
+-- A shelf as contracts see it: its disk, the size of a sector (siad's is 4 MiB), and a mark for each slot.
 use Rattle.std.specs.Prelude.{◌≡◌, ◌≢◌, ℕ, ◌^◌, ◌<◌, ◌≤◌, Bool, true, false, List, length, map, slice_index_or, slice_set}
 use Rattle.std.specs.List.{filter, enumerate_from}
-use Rattle.sia_edge.specs.Edge.{Rose}
-use Rattle.sia_shelf.specs.Slots.{InEach, end_of}
+use Rattle.sia_edge.specs.Disk.{Standing, Faulted, EachImage, Leaves}
+use Rattle.sia_shelf.specs.Slots.{Has, end_of}
 use Rattle.sia_shelf.specs.declared.fault.ShelfFault.{ShelfFault}
 use Rattle.sia_shelf.specs.declared.fault.ShelfFault.TheVariants as fault
 use Rattle.sia_shelf.specs.declared.mark.Mark.{Mark}
@@ -46,6 +46,12 @@ settled mark.Live = mark.Live
 abbrev pub LowerTaken : List Mark → ℕ → Type 0
 LowerTaken marks slot = (lower : ℕ) → lower < slot → mark_of marks lower ≢ mark.Free
 
+-- The slot is the first one that is free, so that it may be put.
+pub record IsFirstFree (marks : List Mark) (slot : ℕ) : Type 0 where
+  pub there : slot < length marks
+  pub free : mark_of marks slot ≡ mark.Free
+  pub lower : LowerTaken marks slot
+
 -- What is true of every shelf: a sector has at most 4 MiB, there are at most 2^20 slots, and each slot that isn't free
 -- ends at or before the disk's end.
 pub record IsShelf (sector : ℕ) (marks : List Mark) (end : ℕ) : Type 0 where
@@ -55,18 +61,18 @@ pub record IsShelf (sector : ℕ) (marks : List Mark) (end : ℕ) : Type 0 where
   pub fits : (slot : ℕ) → mark_of marks slot ≢ mark.Free → end_of sector slot ≤ end
 
 -- What a live slot held in each image as the call began, it holds in each image that a crash may have left since.
-abbrev pub KeepsLive : {D : Type 0} → (D → ℕ) → (D → ℕ → List ℕ → Type 0) → ShelfState D → ShelfState D → Type 0
-KeepsLive moment since old new = (slot : ℕ) (bytes : List ℕ) → mark_of old.marks slot ≡ mark.Live
-    → InEach old.sector slot bytes (since old.disk (moment old.disk))
-    → InEach old.sector slot bytes (since new.disk (moment old.disk))
+abbrev pub KeepsLive : {D : Type 0} → (D → Standing) → ShelfState D → ShelfState D → Type 0
+KeepsLive standing old new = (slot : ℕ) (bytes : List ℕ) → mark_of old.marks slot ≡ mark.Live
+    → EachImage (Has old.sector slot bytes) (standing old.disk)
+    → Leaves (Has old.sector slot bytes) (standing old.disk) (standing new.disk)
 
 -- why a call that only writes answers a fault: the disk's count rose
-abbrev pub DiskFault : ℕ → ℕ → ShelfFault → Type 0
-DiskFault before now e = (e ≡ fault.Disk) × Rose before now
+abbrev pub DiskFault : Standing → Standing → ShelfFault → Type 0
+DiskFault old new cause = (cause ≡ fault.Disk) × Faulted old new
 
 -- Why a read answers a fault: the disk's count rose, or memory was short, or the disk ends before the slot does.
-abbrev pub ReadCause : ℕ → ℕ → ℕ → ℕ → ℕ → ShelfFault → Type 0
-ReadCause before now sector slot end fault.Memory = Unit {0}
-ReadCause before now sector slot end fault.Disk = Rose before now
-ReadCause before now sector slot end fault.Full = ⊥
-ReadCause before now sector slot end (fault.Short at) = (at ≡ slot) × (end < end_of sector slot)
+abbrev pub SlotCause : Standing → Standing → ℕ → ℕ → ShelfFault → Type 0
+SlotCause old new sector slot fault.Memory = Unit {0}
+SlotCause old new sector slot fault.Disk = Faulted old new
+SlotCause old new sector slot fault.Full = ⊥
+SlotCause old new sector slot (fault.Short at) = (at ≡ slot) × (length old.seen < end_of sector slot)

@@ -1,4 +1,4 @@
--- Slots: equal parts of a disk, side by side from its first byte on. Each holds one sector.
+-- Slots: equal parts of a disk, side by side from its first byte on, as in siad's storage folders. Each holds one sector.
 use Rattle.std.specs.Prelude.{◌≡◌, ◌≢◌, ℕ, ◌+◌, ◌*◌, ◌^◌, ◌≤◌, List, length, take, drop}
 
 -- the sizes that a sector may have: 64 bytes times a power of 2, up to 4 MiB
@@ -17,10 +17,6 @@ slot_of sector slot image = take sector (drop (slot * sector) image)
 pub record Has (sector slot : ℕ) (bytes image : List ℕ) : Type 0 where
   pub size : length bytes ≡ sector
   pub is : slot_of sector slot image ≡ bytes
-
--- in each image the slot holds these bytes
-abbrev pub InEach : ℕ → ℕ → List ℕ → (List ℕ → Type 0) → Type 0
-InEach sector slot bytes images = (image : List ℕ) → images image → Has sector slot bytes image
 
 -- what any other slot held, it holds still
 abbrev pub KeepsOthers : ℕ → ℕ → List ℕ → List ℕ → Type 0

@@ -1,6 +1,6 @@
 //! Slots of a disk, each of one sector.
-ghost use Rattle.std.specs.Prelude.{◌≡◌, ℕ, ◌+◌, ◌*◌, ◌<◌, ◌≤◌, List, IsTrue, IfErr, OnOk, MatchOption, length};
-ghost use Rattle.sia_edge.specs.Disk.{Passes, Follows};
+ghost use Rattle.std.specs.Prelude.{◌≡◌, ℕ, ◌+◌, ◌*◌, ◌<◌, ◌≤◌, List, IsTrue, IfErr, OnOk, MatchOption, max, length};
+ghost use Rattle.sia_edge.specs.Disk.{Changes};
 ghost use Rattle.sia_shelf.specs.Shelf.{DiskFault};
 ghost use Rattle.sia_shelf.specs.Slots.{Has, KeepsOthers, end_of};
 
@@ -21,17 +21,17 @@ pub(crate) fn place_of(end: u64, sector: u64, slot: u64) -> Option<u64>
 
 /// Writes a slot, which begins at `place`.
 pub(crate) fn write_slot<D: Disk>(disk: &mut D, place: u64, bytes: &[u8]) -> Result<(), ShelfFault>
-    requires within { place ≤ length (D.seen disk.old) }
+    requires within { place ≤ length (D.standing disk.old).seen }
     requires some { 0 < length bytes.now }
-    ensures longer { length (D.seen disk.old) ≤ length (D.seen disk.new) }
-    ensures end { OnOk result (place + length bytes.now ≤ length (D.seen disk.new)) }
-    ensures wrote { IsTrue D.tells → OnOk result ((slot : ℕ) → place ≡ slot * length bytes.now → Has (length bytes.now) slot bytes.now (D.seen disk.new)) }
-    ensures others { IsTrue D.tells → (slot : ℕ) → place ≡ slot * length bytes.now → KeepsOthers (length bytes.now) slot (D.seen disk.old) (D.seen disk.new) }
-    ensures images { (slot : ℕ) → place ≡ slot * length bytes.now
-        → Follows (KeepsOthers (length bytes.now) slot) (D.since disk.old (D.moment disk.old)) (D.since disk.new (D.moment disk.old)) }
-    ensures time { Passes (D.moment disk.old) (D.moment disk.new) (D.since disk.old) (D.since disk.new) }
-    ensures later { D.faults disk.old ≤ D.faults disk.new }
-    ensures cause { IfErr result (DiskFault (D.faults disk.old) (D.faults disk.new)) }
+    ensures longer { length (D.standing disk.old).seen ≤ length (D.standing disk.new).seen }
+    ensures within { length (D.standing disk.new).seen ≤ max (length (D.standing disk.old).seen) (place + length bytes.now) }
+    ensures end { OnOk result (place + length bytes.now ≤ length (D.standing disk.new).seen) }
+    ensures wrote { IsTrue D.tells → OnOk result ((slot : ℕ) → place ≡ slot * length bytes.now → Has (length bytes.now) slot bytes.now (D.standing disk.new).seen) }
+    ensures others { IsTrue D.tells → (slot : ℕ) → place ≡ slot * length bytes.now
+        → KeepsOthers (length bytes.now) slot (D.standing disk.old).seen (D.standing disk.new).seen }
+    ensures changes { (slot : ℕ) → place ≡ slot * length bytes.now
+        → Changes (KeepsOthers (length bytes.now) slot) (D.standing disk.old) (D.standing disk.new) }
+    ensures cause { IfErr result (DiskFault (D.standing disk.old) (D.standing disk.new)) }
 {
     done(disk.write_at(place, bytes))
 }

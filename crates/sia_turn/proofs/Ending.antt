@@ -8,7 +8,7 @@ use lib.ListN.{get_elem?}
 use Rattle.atomic_table.specs.Table.{State, opening, Final, Seen}
 use Rattle.sia_turn.specs.declared.view.Stage.TheVariants.{Outside}
 use Rattle.sia_turn.specs.declared.view.View.{View}
-use Rattle.sia_turn.specs.Entries.{Covers, IsWhole}
+use Rattle.sia_turn.specs.Entries.{Covers, OwnsAll}
 use Rattle.sia_turn.specs.Views.{first_view}
 use Rattle.sia_turn.specs.Turning.{total, tickets, seats_of, IsKnown, AreApart, Turning}
 use Rattle.sia_turn.proofs.EntryLemmas.{starts_empty, own_none}
@@ -75,7 +75,7 @@ module _ {T E : Type 0} (stands : T → List E → Type 0) (seats : ℕ) where
 
   -- what comes out of the slot is the value
   pub ends : (id : ℕ) (v : View E) (ws : List ℕ) (xs : List (Option T)) (r : Option T) → v.stage ≡ Outside → v.parts + v.rest ≡ seats → Final (Seen Rule id v) ws xs → get_elem? xs 0 ≡ some r
-      → IsSomeAnd r (λ x. IsWhole stands x v.seen v.own)
+      → IsSomeAnd r (λ x. OwnsAll stands x v.seen v.own)
   ends id v ws xs r outside whole f comes =
       let s = f.0 in
       let h = f.1.0 in
@@ -87,5 +87,5 @@ module _ {T E : Type 0} (stands : T → List E → Type 0) (seats : ℕ) where
       (λ j u there opens. free j u there (ap tickets opens.1))
       h.slot in
       let there : get_elem? xs 0 ≡ some (Some filled.0) = f.4 0 (Some filled.0) (ap (λ (hs : List (Maybe (Option T))). get_elem? hs 0) h.homes ∙ ap some filled.1) in
-      subst (λ (o : Option T). IsSomeAnd o (λ x. IsWhole stands x v.seen v.own)) (some-injective (Some filled.0) r (sym there ∙ comes))
+      subst (λ (o : Option T). IsSomeAnd o (λ x. OwnsAll stands x v.seen v.own)) (some-injective (Some filled.0) r (sym there ∙ comes))
       (record { log = h.log; stands_for = filled.2; begins = k.seen; placed = λ p e c. (k.own p e c).0; covered = all_own s h id v at whole; once = k.once })

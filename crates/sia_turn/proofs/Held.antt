@@ -4,7 +4,7 @@ use Rattle.atomic_table.specs.Table.{Me, rest}
 use Rattle.sia_turn.specs.declared.view.Stage.TheVariants.{Outside}
 use Rattle.sia_turn.specs.declared.view.View.{View}
 use Rattle.sia_turn.specs.Views.{entered, is_inside, IsHeld}
-use Rattle.sia_turn.specs.Steps.{Takes, Enters}
+use Rattle.sia_turn.specs.Moves.{Takes, Enters}
 
 module _ {T : Type 0} where
   value_or : Option T → List (ℕ × Option T) → Option T

@@ -7,3 +7,4 @@ pub mod Passing
 pub mod Meeting
 pub mod Ending
 pub mod Held
+pub mod Gathering

@@ -13,7 +13,7 @@ use Rattle.sia_turn.specs.declared.view.View.{View}
 use Rattle.sia_turn.specs.Entries.{StartsWith}
 use Rattle.sia_turn.specs.Views.{lender, newcomer, joined, spent, longer}
 use Rattle.sia_turn.specs.Turning.{total, tickets, out, seats_of, InTurn, IsKnown, Turning}
-use Rattle.sia_turn.specs.Steps.{Meets}
+use Rattle.sia_turn.specs.Moves.{Meets}
 use Rattle.sia_turn.proofs.EntryLemmas.{starts_empty, starts_shorter, once_both, own_none}
 use Rattle.sia_turn.proofs.Rolls.{there_below, total_set, total_snoc, each_set, each_snoc}
 use Rattle.sia_turn.proofs.Standing.{apart_same, apart_without, apart_snoc, slot_set, slot_snoc}

@@ -10,8 +10,8 @@ use Rattle.sia_turn.specs.declared.view.Stage.TheVariants.{Inside}
 use Rattle.sia_turn.specs.declared.view.View.{View}
 use Rattle.sia_turn.specs.Entries.{StartsWith, numbered}
 use Rattle.sia_turn.specs.Views.{gone}
-use Rattle.sia_turn.specs.Turning.{total, ticket, tickets, Opens, out, seats_of, InTurn, IsKnown, Turning}
-use Rattle.sia_turn.specs.Steps.{Passes}
+use Rattle.sia_turn.specs.Turning.{total, ticket, tickets, IsOpening, out, seats_of, InTurn, IsKnown, Turning}
+use Rattle.sia_turn.specs.Moves.{GivesBack}
 use Rattle.sia_turn.proofs.EntryLemmas.{starts_itself, starts_longer, slice_get_front, slice_get_behind, slice_get_parts, slice_get_below, numbered_has, numbered_at, numbered_once, once_both}
 use Rattle.sia_turn.proofs.Rolls.{there_below, total_set, each_set}
 use Rattle.sia_turn.proofs.Standing.{counts_on, in_turn_served, opens_served, apart_without}
@@ -73,7 +73,7 @@ module _ {T E : Type 0} (stands : T → List E → Type 0) (seats : ℕ) where
   Rule = Turning stands seats
 
   pub passes : (more : List E) (slots id : ℕ) (me : Me (Option T) (View E)) (t : ℕ) (x : T) → me.0.stage ≡ Inside t → me.1 ≡ (0, Some x) ∷ [] → stands x (me.0.seen ++ more)
-      → Allows Rule slots id me 1 (λ n. (n + 1) % 2 ^ 64) (Passes more (step slots 1 1 0 none) me)
+      → Allows Rule slots id me 1 (λ n. (n + 1) % 2 ^ 64) (GivesBack more (step slots 1 1 0 none) me)
   passes more slots id me t x inside holds new s h len at small =
       let v = me.0 in
       let w = gone more v in
@@ -114,7 +114,7 @@ module _ {T E : Type 0} (stands : T → List E → Type 0) (seats : ℕ) where
           apart = apart_without s.views id w refl h.apart;
           slot = (
             subst (λ (seen : List E). stands x (seen ++ more)) turn.2 new,
-            each_set (λ j u. Opens u.stage → ⊥) s.views id w (λ o. let e = o.1 in absurd (cc))
+            each_set (λ j u. IsOpening u.stage → ⊥) s.views id w (λ o. let e = o.1 in absurd (cc))
                 (λ j u off there o. unserved j u off there (opens_served h.log h.drawn h.served u.seen u.stage o (h.known j u there).turn)),
           );
         },

@@ -8,7 +8,7 @@ use Rattle.atomic_table.proofs.Lists.{at_set, at_longer, set_else}
 use Rattle.sia_turn.specs.declared.view.Stage.{Stage}
 use Rattle.sia_turn.specs.declared.view.Stage.TheVariants.{Outside, Waiting, Inside, Opening}
 use Rattle.sia_turn.specs.declared.view.View.{View}
-use Rattle.sia_turn.specs.Turning.{ticket, tickets, HasValue, Opens, InTurn, AreApart, SomeIs, IsSlot}
+use Rattle.sia_turn.specs.Turning.{ticket, tickets, HasValue, IsOpening, InTurn, AreApart, SomeIs, IsSlot}
 use Rattle.sia_turn.proofs.Rolls.{one_at, set_there, snoc_there, each_set}
 
 -- a word counts on
@@ -50,7 +50,7 @@ module _ {E : Type 0} where
   pub value_served : (log : List E) (drawn served : ℕ) (seen : List E) (s : Stage) → HasValue s → InTurn log drawn served seen s → ticket s ≡ some served
   value_served log drawn served seen s v k = let e = v.1 in let here = subst (InTurn log drawn served seen) e k in ap ticket e ∙ ap some here.0
 
-  pub opens_served : (log : List E) (drawn served : ℕ) (seen : List E) (s : Stage) → Opens s → InTurn log drawn served seen s → ticket s ≡ some served
+  pub opens_served : (log : List E) (drawn served : ℕ) (seen : List E) (s : Stage) → IsOpening s → InTurn log drawn served seen s → ticket s ≡ some served
   opens_served log drawn served seen s o k = let e = o.1 in let here = subst (InTurn log drawn served seen) e k in ap ticket e ∙ ap some here.0
 
   -- the new ticket of one pass is no other's
@@ -97,25 +97,25 @@ module _ {E : Type 0} where
   module _ {T : Type 0} (stands : T → List E → Type 0) where
     -- the slot is as it was, where one view changes between stages of one kind
     pub slot_set : (log : List E) (views : List (View E)) (id : ℕ) (v w : View E) (home : Maybe (Option T)) → get_elem? views id ≡ some v → (HasValue v.stage → HasValue w.stage)
-        → (Opens v.stage → Opens w.stage) → (Opens w.stage → Opens v.stage) → IsSlot stands log views home → IsSlot stands log (set views id w) home
+        → (IsOpening v.stage → IsOpening w.stage) → (IsOpening w.stage → IsOpening v.stage) → IsSlot stands log views home → IsSlot stands log (set views id w) home
     slot_set log views id v w none at value opens back s = some_set HasValue views id v w at value s
-    slot_set log views id v w (some None) at value opens back s = some_set Opens views id v w at opens s
-    slot_set log views id v w (some (Some x)) at value opens back s = (s.0, each_set (λ j u. Opens u.stage → ⊥) views id w (λ o. s.1 id v at (back o)) (λ j u off there. s.1 j u there))
+    slot_set log views id v w (some None) at value opens back s = some_set IsOpening views id v w at opens s
+    slot_set log views id v w (some (Some x)) at value opens back s = (s.0, each_set (λ j u. IsOpening u.stage → ⊥) views id w (λ o. s.1 id v at (back o)) (λ j u off there. s.1 j u there))
 
-    pub slot_snoc : (log : List E) (views : List (View E)) (w : View E) (home : Maybe (Option T)) → (Opens w.stage → ⊥) → IsSlot stands log views home → IsSlot stands log (views ++ w ∷ []) home
+    pub slot_snoc : (log : List E) (views : List (View E)) (w : View E) (home : Maybe (Option T)) → (IsOpening w.stage → ⊥) → IsSlot stands log views home → IsSlot stands log (views ++ w ∷ []) home
     slot_snoc log views w none off s = (s.0, s.1, at_longer views (w ∷ []) s.0 s.1 s.2, s.3)
     slot_snoc log views w (some None) off s = (s.0, s.1, at_longer views (w ∷ []) s.0 s.1 s.2, s.3)
-    slot_snoc log views w (some (Some x)) off s = (s.0, λ j u there. ⊎_elim (λ old. s.1 j u old) (λ (t : (j ≡ length views) × (w ≡ u)). subst (λ (y : View E). Opens y.stage → ⊥) t.1 off) (snoc_there views w u j there))
+    slot_snoc log views w (some (Some x)) off s = (s.0, λ j u there. ⊎_elim (λ old. s.1 j u old) (λ (t : (j ≡ length views) × (w ≡ u)). subst (λ (y : View E). IsOpening y.stage → ⊥) t.1 off) (snoc_there views w u j there))
 
     -- where no pass is inside or opens, the slot has a value
-    pub slot_filled : (log : List E) (views : List (View E)) (home : Maybe (Option T)) → ((j : ℕ) (u : View E) → get_elem? views j ≡ some u → HasValue u.stage → ⊥) → ((j : ℕ) (u : View E) → get_elem? views j ≡ some u → Opens u.stage → ⊥)
+    pub slot_filled : (log : List E) (views : List (View E)) (home : Maybe (Option T)) → ((j : ℕ) (u : View E) → get_elem? views j ≡ some u → HasValue u.stage → ⊥) → ((j : ℕ) (u : View E) → get_elem? views j ≡ some u → IsOpening u.stage → ⊥)
         → IsSlot stands log views home → (x : T) × (home ≡ some (Some x)) × stands x log
     slot_filled log views none value opens s = absurd (value s.0 s.1 s.2 s.3)
     slot_filled log views (some None) value opens s = absurd (opens s.0 s.1 s.2 s.3)
     slot_filled log views (some (Some x)) value opens s = (x, refl, s.0)
 
     -- where a pass opens and none is inside, the slot is empty
-    pub slot_empty : (log : List E) (views : List (View E)) (home : Maybe (Option T)) → ((j : ℕ) (u : View E) → get_elem? views j ≡ some u → HasValue u.stage → ⊥) → SomeIs Opens views
+    pub slot_empty : (log : List E) (views : List (View E)) (home : Maybe (Option T)) → ((j : ℕ) (u : View E) → get_elem? views j ≡ some u → HasValue u.stage → ⊥) → SomeIs IsOpening views
         → IsSlot stands log views home → home ≡ some None
     slot_empty log views none value opens s = absurd (value s.0 s.1 s.2 s.3)
     slot_empty log views (some None) value opens s = refl

@@ -11,8 +11,8 @@ use Rattle.atomic_table.proofs.Lists.{set_again, one_turn}
 use Rattle.sia_turn.specs.declared.view.Stage.TheVariants.{Outside, Waiting, Opening}
 use Rattle.sia_turn.specs.declared.view.View.{View}
 use Rattle.sia_turn.specs.Views.{waiting, entered}
-use Rattle.sia_turn.specs.Turning.{total, ticket, tickets, HasValue, Opens, out, seats_of, InTurn, IsKnown, Turning}
-use Rattle.sia_turn.specs.Steps.{Draws, Looks, Begins}
+use Rattle.sia_turn.specs.Turning.{total, ticket, tickets, HasValue, IsOpening, out, seats_of, InTurn, IsKnown, Turning}
+use Rattle.sia_turn.specs.Moves.{Draws, Looks, Begins}
 use Rattle.sia_turn.proofs.EntryLemmas.{starts_itself}
 use Rattle.sia_turn.proofs.Rolls.{set_there, total_set, total_under, each_set}
 use Rattle.sia_turn.proofs.Standing.{counts_on, ticket_drawn, in_turn_drawn, value_served, opens_served, apart_fresh, apart_same, one_ticket, slot_set, slot_filled, slot_empty}
@@ -117,11 +117,11 @@ module _ {T E : Type 0} (stands : T → List E → Type 0) (seats : ℕ) where
       let same : u ≡ v = one_ticket s.views j id u v h.served h.apart there at (value_served h.log h.drawn h.served u.seen u.stage has (h.known j u there).turn) mine in
       off (subst (λ (x : View E). HasValue x.stage) same has)
 
-  none_opens : (s : State (Option T) (View E)) (h : Rule s) (id : ℕ) (v : View E) → get_elem? s.views id ≡ some v → ticket v.stage ≡ some h.served → (Opens v.stage → ⊥)
-      → (j : ℕ) (u : View E) → get_elem? s.views j ≡ some u → Opens u.stage → ⊥
+  none_opens : (s : State (Option T) (View E)) (h : Rule s) (id : ℕ) (v : View E) → get_elem? s.views id ≡ some v → ticket v.stage ≡ some h.served → (IsOpening v.stage → ⊥)
+      → (j : ℕ) (u : View E) → get_elem? s.views j ≡ some u → IsOpening u.stage → ⊥
   none_opens s h id v at mine off j u there opens =
       let same : u ≡ v = one_ticket s.views j id u v h.served h.apart there at (opens_served h.log h.drawn h.served u.seen u.stage opens (h.known j u there).turn) mine in
-      off (subst (λ (x : View E). Opens x.stage) same opens)
+      off (subst (λ (x : View E). IsOpening x.stage) same opens)
 
   -- the ticket that waits is served
   hits : (id : ℕ) (me : Me (Option T) (View E)) (t slots : ℕ) → me.0.stage ≡ Waiting t → (s : State (Option T) (View E)) (h : Rule s) → get_elem? s.views id ≡ some me.0 → t ≡ h.served

@@ -2,4 +2,4 @@ pub mod Entries
 pub mod Tokens
 pub mod Views
 pub mod Turning
-pub mod Steps
+pub mod Moves

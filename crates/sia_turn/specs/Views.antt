@@ -1,4 +1,4 @@
--- What a pass knows, and what each step makes of it.
+-- What a pass knows, and what each step of the ticket lock (Mellor-Crummey and Scott 1991) makes of it.
 use Rattle.std.specs.Prelude.{◌≡◌, ℕ, ◌+◌, ◌-◌, ◌<◌, ◌⊎◌, Bool, true, false, if◌then◌else◌, List, [], ◌∷◌, ◌++◌, length, nat_le, Option, None}
 use Rattle.atomic_table.specs.Seated.{TableId}
 use Rattle.atomic_table.specs.Table.{Me}
@@ -8,16 +8,19 @@ use Rattle.sia_turn.specs.declared.view.View.{View}
 use Rattle.sia_turn.specs.Entries.{numbered}
 use Rattle.sia_turn.specs.Tokens.{Token}
 
+-- the pass in this stage has the value
 abbrev pub is_inside : Stage → Bool
-is_inside (Inside t) = true
+is_inside (Inside ticket) = true
 is_inside Outside = false
-is_inside (Waiting t) = false
-is_inside (Opening t) = false
+is_inside (Waiting ticket) = false
+is_inside (Opening ticket) = false
 
 module _ {E : Type 0} where
+  -- what a contract sees of a pass of this turn
   abbrev pub token : TableId → View E → Token E
-  token turn v = record { turn = turn; inside = is_inside v.stage; seen = v.seen; own = v.own; parts = v.parts; rest = v.rest }
+  token turn pass = record { turn = turn; inside = is_inside pass.stage; seen = pass.seen; own = pass.own; parts = pass.parts; rest = pass.rest }
 
+  -- the view of its six parts
   abbrev pub view : Stage → List E → List E → List (ℕ × E) → ℕ → ℕ → View E
   view stage seen other own parts rest = record { stage = stage; seen = seen; other = other; own = own; parts = parts; rest = rest }
 
@@ -27,43 +30,48 @@ module _ {E : Type 0} where
 
   -- with a ticket
   abbrev pub waiting : ℕ → View E → View E
-  waiting t v = view (Waiting t) v.seen v.other v.own v.parts v.rest
+  waiting ticket pass = view (Waiting ticket) pass.seen pass.other pass.own pass.parts pass.rest
 
   -- inside, with the whole list seen
   abbrev pub entered : ℕ → List E → View E → View E
-  entered t log v = view (Inside t) log v.other v.own v.parts v.rest
+  entered ticket log pass = view (Inside ticket) log pass.other pass.own pass.parts pass.rest
 
   -- outside again, with these entries added
   abbrev pub gone : List E → View E → View E
-  gone added v = view Outside (v.seen ++ added) v.other (v.own ++ numbered (length v.seen) added) v.parts v.rest
+  gone added pass = view Outside (pass.seen ++ added) pass.other (pass.own ++ numbered (length pass.seen) added) pass.parts pass.rest
 
-  -- what is left after another was split off, and that other
+  -- what is left after another was split off
   abbrev pub lender : View E → View E
-  lender v = view v.stage v.seen v.other v.own v.parts (v.rest - 1)
+  lender pass = view pass.stage pass.seen pass.other pass.own pass.parts (pass.rest - 1)
 
+  -- the one that is split off: it has seen as much, and has no entries
   abbrev pub newcomer : View E → View E
-  newcomer v = view Outside v.seen [] [] 1 0
+  newcomer pass = view Outside pass.seen [] [] 1 0
 
+  -- the longer of two lists; the first of two of one length
   abbrev pub longer : List E → List E → List E
-  longer xs ys = if nat_le (length ys) (length xs) then xs else ys
+  longer one another = if nat_le (length another) (length one) then one else another
 
+  -- the other of the two
   abbrev pub shorter : List E → List E → List E
-  shorter xs ys = if nat_le (length ys) (length xs) then ys else xs
+  shorter one another = if nat_le (length another) (length one) then another else one
 
-  -- two in one, and what is left of the second
+  -- two in one
   abbrev pub joined : View E → View E → View E
-  joined v w = view v.stage (longer v.seen w.seen) (shorter v.seen w.seen) (v.own ++ w.own) (v.parts + w.parts) (v.rest + w.rest)
+  joined pass other = view pass.stage (longer pass.seen other.seen) (shorter pass.seen other.seen) (pass.own ++ other.own) (pass.parts + other.parts) (pass.rest + other.rest)
 
+  -- what is left of the second
   abbrev pub spent : View E
   spent = view Outside [] [] [] 0 0
 
   module _ {T : Type 0} where
+    -- it has no slot out
     abbrev pub IsOutside : Me (Option T) (View E) → Type 0
     IsOutside me = (me.0.stage ≡ Outside) × (me.1 ≡ [])
 
     -- it has the slot, which is empty: the caller has the value
     abbrev pub IsInside : Me (Option T) (View E) → Type 0
-    IsInside me = (t : ℕ) × (me.0.stage ≡ Inside t) × (me.1 ≡ (0, None) ∷ [])
+    IsInside me = (ticket : ℕ) × (me.0.stage ≡ Inside ticket) × (me.1 ≡ (0, None) ∷ [])
 
     -- a pass between two calls
     abbrev pub IsHeld : Me (Option T) (View E) → Type 0

@@ -8,7 +8,7 @@
 //! - meet: after a join both seen lists are compared
 //!
 //! The value itself is moved by an exchange of the slot, which is no step.
-ghost use Rattle.sia_turn.specs.Steps.{Draws, Looks, Begins, Passes, Meets};
+ghost use Rattle.sia_turn.specs.Moves.{Draws, Looks, Begins, GivesBack, Meets};
 ghost use Rattle.sia_turn.specs.Views.{lender, newcomer, joined, spent};
 
 use crate::logged::{Logged, Named};
@@ -38,7 +38,7 @@ impl<T, E> Play<Option<T>, View<E>> for Begin {
 pub struct PassOn<N>(PhantomData<N>);
 
 impl<T: Logged, N: Named<T>> Play<Option<T>, View<T::Entry>> for PassOn<N> {
-    ghost then = { Passes N.entries };
+    ghost then = { GivesBack N.entries };
 }
 
 pub struct Meet;

@@ -1,6 +1,6 @@
 //! The turn and its passes.
 ghost use Rattle.std.specs.Prelude.{◌≡◌, ℕ, ◌+◌, ◌-◌, ◌≤◌, List, [], ◌++◌, length, true, false, ◌⊎◌, IfOk, IfErr};
-ghost use Rattle.sia_turn.specs.Entries.{StartsWith, numbered, Places, AreDisjoint, IsWhole};
+ghost use Rattle.sia_turn.specs.Entries.{StartsWith, numbered, StandAt, AreDisjoint, OwnsAll};
 ghost use Rattle.sia_turn.specs.Tokens.{Place, Token};
 ghost use Rattle.sia_turn.specs.Turning.{Turning};
 ghost use Rattle.sia_turn.specs.Views.{first_view, token, IsHeld};
@@ -13,6 +13,7 @@ use std::alloc::{AllocError, Global};
 use std::marker::Model;
 use std::sync::Wait;
 
+mod many;
 mod moves;
 
 /// The rule of a turn, which is told the number of its seats.
@@ -95,7 +96,7 @@ impl<T: Logged> Turn<T> {
         ensures pass { pass.new ≡ record pass.old { inside = true; seen = pass.new.seen } }
         ensures value { T.stands result pass.new.seen }
         ensures seen { StartsWith pass.new.seen pass.old.seen }
-        ensures own { Places pass.new.seen pass.old.own }
+        ensures own { StandAt pass.new.seen pass.old.own }
     {
         self.wait(rt, &mut pass.seat)
     }
@@ -131,7 +132,7 @@ impl<T: Logged> Turn<T> {
         requires turn { pass.turn ≡ self.turn }
         requires outside { pass.inside ≡ false }
         requires all { pass.parts + pass.rest ≡ self.seats }
-        ensures { IsWhole T.stands result pass.seen pass.own }
+        ensures { OwnsAll T.stands result pass.seen pass.own }
     {
         let Pass { seat } = pass;
         match self.finish(seat) {

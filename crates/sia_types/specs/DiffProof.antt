@@ -1,20 +1,23 @@
--- The proof of a diff: two lists of hashes.
-use Rattle.std.specs.Prelude.{ℕ, List, ◌++◌, Result, Ok}
-use Rattle.sia_encoding.specs.declared.fault.DecodeFault.{DecodeFault}
-use Rattle.sia_encoding.specs.Spelling.{spelled_list}
-use Rattle.sia_encoding.specs.Reading.{Spot, hash_at, list_at, ◌>>=◌}
-use Rattle.sia_encoding.specs.Codec.{IsFixed, IsListOf, spelled_fixed}
+-- The proof of a change of a list of hashes: each record is its fields in order (RHP2; siad's doc/Encoding.md).
+use Rattle.std.specs.Prelude.{refl}
+use Rattle.sia_encoding.specs.Codec.{Codec, Lawful}
+use Rattle.sia_encoding.specs.Items.{hash, list_of}
+use Rattle.sia_encoding.specs.Records.{◌&◌, Record, record_of, recorded}
+use Rattle.sia_encoding.specs.ItemLaws.{hash_law, list_law}
+use Rattle.sia_encoding.specs.RecordLaws.{◌&&&◌, record_law}
 use Rattle.sia_types.specs.declared.diff_proof.DiffProof.{DiffProof}
 
-unfoldable pub spelled_diff_proof : DiffProof → List ℕ
-spelled_diff_proof proof = spelled_list spelled_fixed proof.leaves ++ spelled_list spelled_fixed proof.nodes
+-- the fields of a proof of a diff: the touched hashes, and the roots of all other places
+abbrev pub diff_proof_record : Record DiffProof
+diff_proof_record = record_of
+    (list_of hash & list_of hash)
+    (λ p. record { leaves = p.0; nodes = p.1 })
+    (λ r. (r.leaves, r.nodes))
 
-unfoldable pub diff_proof_at : Spot → Result (DiffProof × Spot) DecodeFault
-diff_proof_at s = do
-  leaves ← list_at hash_at s
-  nodes ← list_at hash_at leaves.1
-  Ok (record { leaves = leaves.0; nodes = nodes.0 }, nodes.1)
+-- a proof of a diff: the touched hashes, and the roots of all other places
+abbrev pub diff_proof : Codec DiffProof
+diff_proof = recorded diff_proof_record
 
--- each is a list of hashes, whose count is within the limit
-abbrev pub IsDiffProof : ℕ → DiffProof → Type 0
-IsDiffProof limit proof = IsListOf (IsFixed 32) limit proof.leaves × IsListOf (IsFixed 32) limit proof.nodes
+-- its reading gives back what its spelling writes
+pub diff_proof_law : Lawful diff_proof
+diff_proof_law = record_law diff_proof_record (λ p. refl) (λ r. refl) (list_law hash_law &&& list_law hash_law)

@@ -1,3 +1,9 @@
-pub mod Decoding
-pub mod DiffProof
+pub mod Conditions
+pub mod Coins
+pub mod Funds
+pub mod FileContracts
+pub mod Signatures
+pub mod Transaction
+pub mod Block
 pub mod UpdateProof
+pub mod DiffProof

@@ -1,20 +1,23 @@
--- The proof of an update: two lists of hashes.
-use Rattle.std.specs.Prelude.{ℕ, List, ◌++◌, Result, Ok}
-use Rattle.sia_encoding.specs.declared.fault.DecodeFault.{DecodeFault}
-use Rattle.sia_encoding.specs.Spelling.{spelled_list}
-use Rattle.sia_encoding.specs.Reading.{Spot, hash_at, list_at, ◌>>=◌}
-use Rattle.sia_encoding.specs.Codec.{IsFixed, IsListOf, spelled_fixed}
+-- The proof of an update of part of a sector: each record is its fields in order (RHP2; siad's doc/Encoding.md).
+use Rattle.std.specs.Prelude.{refl}
+use Rattle.sia_encoding.specs.Codec.{Codec, Lawful}
+use Rattle.sia_encoding.specs.Items.{hash, list_of}
+use Rattle.sia_encoding.specs.Records.{◌&◌, Record, record_of, recorded}
+use Rattle.sia_encoding.specs.ItemLaws.{hash_law, list_law}
+use Rattle.sia_encoding.specs.RecordLaws.{◌&&&◌, record_law}
 use Rattle.sia_types.specs.declared.update_proof.UpdateProof.{UpdateProof}
 
-unfoldable pub spelled_update_proof : UpdateProof → List ℕ
-spelled_update_proof proof = spelled_list spelled_fixed proof.inner ++ spelled_list spelled_fixed proof.outer
+-- the fields of a proof of an update: the two covers of the old sector
+abbrev pub update_proof_record : Record UpdateProof
+update_proof_record = record_of
+    (list_of hash & list_of hash)
+    (λ p. record { inner = p.0; outer = p.1 })
+    (λ r. (r.inner, r.outer))
 
-unfoldable pub update_proof_at : Spot → Result (UpdateProof × Spot) DecodeFault
-update_proof_at s = do
-  inner ← list_at hash_at s
-  outer ← list_at hash_at inner.1
-  Ok (record { inner = inner.0; outer = outer.0 }, outer.1)
+-- a proof of an update: the two covers of the old sector
+abbrev pub update_proof : Codec UpdateProof
+update_proof = recorded update_proof_record
 
--- each is a list of hashes, whose count is within the limit
-abbrev pub IsUpdateProof : ℕ → UpdateProof → Type 0
-IsUpdateProof limit proof = IsListOf (IsFixed 32) limit proof.inner × IsListOf (IsFixed 32) limit proof.outer
+-- its reading gives back what its spelling writes
+pub update_proof_law : Lawful update_proof
+update_proof_law = record_law update_proof_record (λ p. refl) (λ r. refl) (list_law hash_law &&& list_law hash_law)

@@ -1,12 +1,11 @@
-//! The proof of a change of a list of hashes.
+//! The proof of a change of a list of hashes (RHP2).
 ghost use Rattle.std.specs.Prelude.{ℕ, ◌++◌};
-ghost use Rattle.sia_types.specs.Decoding.{IsDecoded};
 
-use crate::decoding::decode;
-use sia_encoding::{Blob, Cursor, DecodeFault, Item, List};
+use sia_encoding::{Blob, Cursor, DecodeFault, Item, List, Spelled, behind};
 use std::alloc::{AllocError, Global};
 
-/// The proof that a host sends for a write: with it a renter goes from the root over the old list of hashes to the one over the new list (RHP2).
+/// The proof that a host sends for a write: with it a renter goes from the root over the old list of hashes to the
+/// one over the new list (RHP2).
 #[derive(Drop)]
 pub struct DiffProof {
     /// The old hashes at the places that the steps touch, in order of their places.
@@ -15,45 +14,22 @@ pub struct DiffProof {
     pub nodes: List<[u8; 32]>,
 }
 
-impl DiffProof {
-    ghost use Rattle.sia_types.specs.DiffProof.{IsDiffProof, spelled_diff_proof, diff_proof_at};
-
-    /// Reads one off the front of the bytes, and tells how many bytes it took. A fault is the first from the left: no
-    /// count may pass the limit. The error `Memory` is want of memory and says nothing of the bytes.
-    pub fn decode(alloc: Global, bytes: &[u8], limit: u64) -> Result<(DiffProof, u64), DecodeFault>
-        ensures { IsDecoded IsDiffProof spelled_diff_proof diff_proof_at bytes.now limit result }
-    {
-        decode::<DiffProof>(alloc, bytes, limit)
-    }
-}
-
 impl Item for DiffProof {
-    ghost use Rattle.sia_types.specs.DiffProof.{IsDiffProof, spelled_diff_proof, diff_proof_at};
+    ghost use Rattle.sia_types.specs.DiffProof.{diff_proof, diff_proof_law};
 
-    ghost fits = { IsDiffProof };
+    ghost codec = { diff_proof };
 
-    ghost spelled = { spelled_diff_proof };
+    ghost law = { diff_proof_law };
 
-    ghost reading = { diff_proof_at };
-
-    #[tactic(auto, unfolding(crate::specs::DiffProof::diff_proof_at))]
-    fn take(alloc: Global, cursor: &mut Cursor<'_>) -> Result<DiffProof, DecodeFault> {
-        let mut ahead = cursor.copy();
-        let leaves = List::take(alloc, &mut ahead)?;
-        let nodes = List::take(alloc, &mut ahead)?;
-        *cursor = ahead;
-        Ok(DiffProof { leaves, nodes })
+    fn read(alloc: Global, cursor: &mut Cursor<'_>) -> Result<DiffProof, DecodeFault> {
+        Ok(DiffProof {
+            leaves: Item::read(alloc, cursor)?,
+            nodes: Item::read(alloc, cursor)?,
+        })
     }
 
-    #[tactic(auto, unfolding(crate::specs::DiffProof::spelled_diff_proof))]
-    fn encode(&self, out: &mut Blob) -> Result<(), AllocError> {
-        let before = out.len();
-        self.leaves.encode(out)?;
-        if self.nodes.encode(out).is_err() {
-            out.truncate(before);
-            return Err(AllocError);
-        }
-        Ok(())
+    fn write(&self, out: &mut Blob) -> Result<(), AllocError> {
+        behind!(self.leaves, self.nodes).write_each(out)
     }
 
     fn copy(&self, alloc: Global) -> Result<DiffProof, AllocError> {

@@ -1,17 +1,12 @@
-//! Laws of the records: each value has one spelling, what is read is spelled so, what is spelled so within the limit is
-//! read whatever follows, and no spelling is a proper prefix of another. The functions do nothing: their contracts are
+//! Laws of the records, beside that of every item ([`sia_encoding::laws`]). The functions do nothing: their contracts are
 //! the laws.
-ghost use Rattle.std.specs.Prelude.{ℕ};
-ghost use Rattle.sia_encoding.specs.Codec.{IsCodec};
-ghost use Rattle.sia_types.specs.DiffProof.{IsDiffProof, spelled_diff_proof, diff_proof_at};
-ghost use Rattle.sia_types.specs.UpdateProof.{IsUpdateProof, spelled_update_proof, update_proof_at};
+ghost use Rattle.std.specs.Prelude.{◌≡◌, ◌++◌, ℕ};
+ghost use Rattle.sia_encoding.specs.Items.{list_of};
+ghost use Rattle.sia_types.specs.declared.transaction.Transaction.{Transaction};
+ghost use Rattle.sia_types.specs.Transaction.{transaction, unsigned};
+ghost use Rattle.sia_types.specs.Signatures.{signature};
 
-/// A proof of an update.
-pub fn of_update_proof()
-    ensures { IsCodec IsUpdateProof spelled_update_proof update_proof_at }
-{}
-
-/// A proof of a diff.
-pub fn of_diff_proof()
-    ensures { IsCodec IsDiffProof spelled_diff_proof diff_proof_at }
+/// A transaction is spelled by its fields without the signatures, and then the signatures.
+pub fn signatures_come_last()
+    ensures { (tx : Transaction) → transaction.spelled tx ≡ unsigned tx ++ (list_of signature).spelled tx.signatures }
 {}

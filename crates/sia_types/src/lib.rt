@@ -1,21 +1,49 @@
-//! The records of Sia, each with its one spelling: `decode` reads one off the front of bytes, `encode` writes one, and
-//! `copy` gives an equal one.
+//! The records of Sia, each with its one spelling.
 //!
-//! A record is spelled by its fields in order (siad's doc/Encoding.md). Its reading, its spelling and the law that they
-//! fit stand in `specs/` under the record's name.
+//! A record is spelled by its fields in order (siad's doc/Encoding.md and its package types; the two tree proofs are RHP2's).
+//! Each record is an [`Item`]: its codec, made of those of its fields, stands in specs/ with its law.
 //!
-//! It stands on sia_encoding, and hands on its lists and byte strings.
+//! ```
+//! use sia_types::{Item, Transaction};
+//! let (tx, taken) = Transaction::decode(alloc, bytes, 2_000_000)?;
+//! tx.encode(&mut out)?;
+//! ```
+//!
+//! # Promises
+//!
+//! - [`Transaction`], [`Block`], [`CoinInput`], [`CoinOutput`], [`FundInput`], [`FundOutput`], [`FileContract`], [`Revision`],
+//!   [`StorageProof`], [`UnlockConditions`], [`PublicKey`], [`Signature`], [`Covered`], [`UpdateProof`] and [`DiffProof`] are
+//!   items: reading and spelling are exactly their codec's, with the first fault and its offset, and its law holds.
+//! - A [`Block`] has no transactions yet: its spelling ends with their count, 0, and reading one that has some is refused at
+//!   their count.
+//! - [`Transaction::encode_unsigned`] appends the spelling of all fields but the signatures; that and the signatures are the
+//!   transaction's spelling ([`laws::signatures_come_last`]).
+//!
+//! # Stands on
+//!
+//! sia_encoding for items, lists and byte strings, which it hands on.
 #![tactic(auto)]
 
-mod decoding;
+mod block;
+mod coins;
+mod conditions;
 mod diff_proof;
+mod file_contracts;
+mod funds;
 pub mod laws;
+mod sig_fault;
+mod signature;
+mod transaction;
 mod update_proof;
 
-pub use decoding::decode;
+pub use block::Block;
+pub use coins::{CoinInput, CoinOutput};
+pub use conditions::{PublicKey, UnlockConditions};
 pub use diff_proof::DiffProof;
+pub use file_contracts::{FileContract, Revision, StorageProof};
+pub use funds::{FundInput, FundOutput};
 pub use sia_encoding::{Blob, DecodeFault, Item, List};
+pub use sig_fault::SigFault;
+pub use signature::{Covered, Signature};
+pub use transaction::Transaction;
 pub use update_proof::UpdateProof;
-
-#[cfg(test)]
-mod tests;

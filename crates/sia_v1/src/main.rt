@@ -5,7 +5,7 @@
 
 use sia_edge::{FileSource, StdSink, write_all};
 use sia_encoding::{Blob, List};
-use sia_program::{Form, read_form, run_plain};
+use sia_program::{read_form, run_plain};
 use std::alloc::{AllocError, Global};
 use std::env::{Env, FillError};
 use std::fs::File;
@@ -42,17 +42,27 @@ fn arguments<R: Env>(rt: &R, alloc: Global) -> Result<List<Blob>, AllocError> {
     Ok(words)
 }
 
-/// The files that the words name: a configuration and an input, or an input alone. One that isn't named or doesn't open
-/// fails at its first read. Words without a form name none.
-fn open_files<R: Files<File = File>>(rt: &R, words: &[Blob]) -> (FileSource, FileSource) {
-    match (read_form(words), words) {
-        (Some(Form::Ledger), [_, config, input]) => (
-            FileSource::open(rt, config.as_slice()),
-            FileSource::open(rt, input.as_slice()),
-        ),
-        (Some(_), [_, input, ..]) => (FileSource::empty(), FileSource::open(rt, input.as_slice())),
-        _ => (FileSource::empty(), FileSource::empty()),
+/// The file that the word at a place names. It fails at its first read where there is no such word, or the file doesn't open.
+fn open_file<R: Files<File = File>>(rt: &R, words: &[Blob], place: Option<usize>) -> FileSource {
+    let Some(place) = place else {
+        return FileSource::empty();
+    };
+    match words.get(place) {
+        Some(name) => FileSource::open(rt, name.as_slice()),
+        None => FileSource::empty(),
     }
+}
+
+/// The configuration and the input that the words name. Words without a form name none.
+fn open_files<R: Files<File = File>>(rt: &R, words: &[Blob]) -> (FileSource, FileSource) {
+    let Some(form) = read_form(words) else {
+        return (FileSource::empty(), FileSource::empty());
+    };
+    let places = form.files();
+    (
+        open_file(rt, words, places.config),
+        open_file(rt, words, places.input),
+    )
 }
 
 fn main(rt: HostRuntime) -> ExitCode {

@@ -1,9 +1,9 @@
 //! What the calls do with a pass's seat.
 ghost use Rattle.std.specs.Prelude.{◌≡◌, ℕ, ◌+◌, ◌<◌, [], ◌++◌, IfSome, IfNone, IsSomeAnd};
-ghost use Rattle.sia_turn.specs.Entries.{StartsWith, AreDisjoint, IsWhole};
+ghost use Rattle.sia_turn.specs.Entries.{StartsWith, AreDisjoint, OwnsAll};
 ghost use Rattle.sia_turn.specs.Views.{gone, longer, IsOutside, IsInside};
-ghost use Rattle.sia_turn.specs.Steps.{Enters, IsWaiting};
-ghost use Rattle.sia_turn.specs.Turning.{Opens};
+ghost use Rattle.sia_turn.specs.Moves.{Enters, IsWaiting};
+ghost use Rattle.sia_turn.specs.Turning.{IsOpening};
 ghost use Rattle.sia_turn.specs.declared.view.Stage.TheVariants.{Outside};
 
 use crate::logged::{Logged, Named};
@@ -22,7 +22,7 @@ impl<T: Logged> Turn<T> {
     // The first pass puts the first value in.
     pub(super) fn begin<N: Named<T>>(&self, seat: &mut Seat<Option<T>, View<T::Entry>>, value: T)
         requires own { seat.old.table_id ≡ self.now.turn }
-        requires opens { Opens seat.old.me.0.stage × (seat.old.me.1 ≡ []) }
+        requires opens { IsOpening seat.old.me.0.stage × (seat.old.me.1 ≡ []) }
         requires value { T.stands value (seat.old.me.0.seen ++ N.entries) }
         ensures own { seat.new.table_id ≡ seat.old.table_id }
         ensures outside { IsOutside seat.new.me }
@@ -120,7 +120,7 @@ impl<T: Logged> Turn<T> {
         requires own { seat.table_id ≡ self.turn }
         requires outside { seat.me.0.stage ≡ Outside }
         requires all { seat.me.0.parts + seat.me.0.rest ≡ self.seats }
-        ensures { IsSomeAnd result (λ x. IsWhole T.stands x seat.me.0.seen seat.me.0.own) }
+        ensures { IsSomeAnd result (λ x. OwnsAll T.stands x seat.me.0.seen seat.me.0.own) }
     {
         let Turn { table } = self;
         let mut closed = table.close_with(seat);

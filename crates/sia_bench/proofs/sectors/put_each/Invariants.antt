@@ -1,6 +1,7 @@
 -- The slots so far are live, and keep the bytes; the others are free.
 use Rattle.std.proofs.Common.{◌≡◌, ◌<◌, ◌≤◌, ℕ, IsTrue, length}
-use Rattle.sia_shelf.specs.Slots.{Has, InEach}
+use Rattle.sia_edge.specs.Disk.{EachImage}
+use Rattle.sia_shelf.specs.Slots.{Has}
 use Rattle.sia_shelf.specs.Shelf.{mark_of}
 use Rattle.sia_shelf.specs.declared.mark.Mark.TheVariants as mark
 use Rattle.sia_bench.proofs.sectors.put_each.Given as goal
@@ -11,5 +12,5 @@ invariant-loop-slot g l =
     × ((slot : ℕ) → slot < l.slot → mark_of l.shelf.marks slot ≡ mark.Live)
     × ((slot : ℕ) → l.slot ≤ slot → mark_of l.shelf.marks slot ≡ mark.Free)
     × (IsTrue g.D.Disk.tells → (slot : ℕ) → slot < l.slot
-    → Has l.fn.shelf.sector slot l.bytes (g.D.Disk.seen l.shelf.disk)
-    × InEach l.fn.shelf.sector slot l.bytes (g.D.Disk.since l.shelf.disk (g.D.Disk.moment l.shelf.disk)))
+    → Has l.fn.shelf.sector slot l.bytes (g.D.Disk.standing l.shelf.disk).seen
+    × EachImage (Has l.fn.shelf.sector slot l.bytes) (g.D.Disk.standing l.shelf.disk))

@@ -1,6 +1,6 @@
 use Rattle.std.proofs.Common.{◌∙◌, ◌+◌, ap, sym, length, drop, get_or, []}
 use Rattle.sia_diff.specs.declared.steps.DiffStep.TheVariants as step
-use Rattle.sia_diff.specs.Steps.{after}
+use Rattle.sia_diff.specs.DiffSteps.{after}
 use Rattle.sia_diff.proofs.Counts.{fits_here, fits_more}
 use Rattle.sia_diff.proofs.Moves.{after_next, after_done, length_step}
 use Rattle.sia_diff.proofs.moving.do_steps.Goals as goal

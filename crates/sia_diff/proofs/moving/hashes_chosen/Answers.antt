@@ -1,4 +1,4 @@
-use Rattle.std.proofs.Common.{◌≡◌, ◌∙◌, ◌++◌, ◌∷◌, [], ap, sym, get_or, arith}
+use Rattle.std.proofs.Common.{◌≡◌, ◌∙◌, ◌++◌, ◌∷◌, [], ap, sym, length, get_or, arith}
 use Rattle.sia_diff.specs.Chosen.{is_chosen}
 use Rattle.sia_diff.specs.Diffs.{hashes_at}
 use Rattle.sia_diff.proofs.Moves.{at_one, at_not}
@@ -16,5 +16,5 @@ loop-place-preserved c =
 
 pub returns : goal.returns
 returns c =
-    let end : c.loop-place.place ≡ c.args.chosen.now.count = omega (arith, c.requires, c.loop-place-test.false, c.loop-place.auto.place-end) in
+    let end : c.loop-place.place ≡ length c.args.hashes.now = omega (arith, c.loop-place-test.false, c.loop-place.auto.place-end) in
     c.loop-place.invariant ∙ ap (hashes_at (is_chosen c.args.chosen.now.old c.args.chosen.now.touched.now) c.args.hashes.now) end

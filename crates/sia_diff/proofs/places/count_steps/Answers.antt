@@ -1,6 +1,6 @@
 use Rattle.std.proofs.Common.{◌∙◌, sym, [], arith, get_or, length}
 use Rattle.sia_diff.specs.declared.steps.DiffStep.TheVariants as step
-use Rattle.sia_diff.specs.Steps.{touch_count}
+use Rattle.sia_diff.specs.DiffSteps.{touch_count}
 use Rattle.sia_diff.proofs.Counts.{fits_here, fits_more, counted_more, counted_done}
 use Rattle.sia_diff.proofs.places.count_steps.Goals as goal
 

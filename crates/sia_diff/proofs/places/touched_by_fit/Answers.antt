@@ -1,7 +1,7 @@
 use Rattle.std.proofs.Common.{◌≡◌, ◌∙◌, ap, length}
 use Rattle.std.specs.List.{filter, range_with_len}
 use Rattle.sia_diff.specs.Marks.{is_counted}
-use Rattle.sia_diff.specs.Steps.{touched_places}
+use Rattle.sia_diff.specs.DiffSteps.{touched_places}
 use Rattle.sia_diff.proofs.Fit.{fit_count, fit_done, if_ok, places_same}
 use Rattle.sia_diff.proofs.places.touched_by_fit.Goals as goal
 

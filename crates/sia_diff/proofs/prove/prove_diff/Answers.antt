@@ -1,8 +1,7 @@
 use Rattle.std.proofs.Common.{◌≡◌, ◌∙◌, ◌<◌, ℕ, Bool, ap, length, get_or, arith}
 use Rattle.sia_merkle.specs.Segments.{cover, others, segment_roots}
 use Rattle.sia_diff.specs.Diffs.{touched_or_new}
-use Rattle.sia_diff.specs.Steps.{is_fit, touched_places}
-use Rattle.sia_diff.proofs.Fit.{fit_count}
+use Rattle.sia_diff.specs.DiffSteps.{touched_places}
 use Rattle.sia_diff.proofs.Listed.{are_places, chosen_is, touched_below}
 use Rattle.sia_diff.proofs.prove.prove_diff.Goals as goal
 
@@ -13,13 +12,11 @@ hashes_of-requires g c = λ k within.
     omega (arith, ap (λ places. get_or places k 0) is, c.count-n.ensures)
 
 pub invariant_of-chosen : goal.invariant_of-chosen
-invariant_of-chosen g c = record {
-  bound = fit_count c.count-n.result c.args.steps.now (ap (λ n. is_fit n c.args.steps.now) c.count-n.ensures ∙ c.requires.fit);
-  places = are_places c.count-n.result c.args.steps.now c.as_slice-2.result.now (c.as_slice-2.ensures ∙ c.in_ok-touched.ensures);
-}
+invariant_of-chosen g c = record { places = are_places c.count-n.result c.args.steps.now c.as_slice-2.result.now (c.as_slice-2.ensures ∙ c.in_ok-touched.ensures) }
 
 pub returns-clause-nodes : goal.returns-clause-nodes
 returns-clause-nodes g c =
+    let len = length (g.N.Nodes.hashes c.args.nodes.now) in
     c.in_ok-roots.ensures
-    ∙ ap (λ (chosen : ℕ → Bool). segment_roots (g.N.Nodes.hashes c.args.nodes.now) (cover (others chosen) c.count-n.result)) (chosen_is c.count-n.result c.args.steps.now c.as_slice-2.result.now (c.as_slice-2.ensures ∙ c.in_ok-touched.ensures))
-    ∙ ap (λ n. segment_roots (g.N.Nodes.hashes c.args.nodes.now) (cover (others (touched_or_new n c.args.steps.now)) n)) c.count-n.ensures
+    ∙ ap (λ (chosen : ℕ → Bool). segment_roots (g.N.Nodes.hashes c.args.nodes.now) (cover (others chosen) len)) (chosen_is c.count-n.result c.args.steps.now c.as_slice-2.result.now (c.as_slice-2.ensures ∙ c.in_ok-touched.ensures))
+    ∙ ap (λ n. segment_roots (g.N.Nodes.hashes c.args.nodes.now) (cover (others (touched_or_new n c.args.steps.now)) len)) c.count-n.ensures

@@ -8,13 +8,11 @@ pub loop-done-preserved : goal.loop-done-preserved
 loop-done-preserved g c =
     let so_far = c.loop-done.invariant in
     let read = c.in-Bytes.ensures in
-    let earlier = g.met.D.Disk.earlier in
     let count = c.in-Bytes.count in
     let done = c.loop-done.done in (
       filled_fits _ _ _ _ _ so_far.0 read.bound.1,
       λ told. filled _ _ _ _ _ _ so_far.0 read.bound.1 (so_far.1 told)
           (read.bytes told ∙ ap (λ seen. take count (drop (c.args.at + done) seen)) so_far.3.same ∙ ap (take count) (sym (drop-drop done c.args.at _))),
       λ i. omega (arith, c.type_inv.buffer i),
-      quiet_on so_far.3 (earlier c.loop-done.disk) (record { same = read.same; images = read.images; time = read.time }) (earlier c.read.new.self),
-      omega (arith, so_far.4, read.cause.later),
+      quiet_on so_far.3 read.quiet,
     )

@@ -5,37 +5,29 @@ use Rattle.sia_journal.proofs.Walking.{sets_out, goes_further, last_found, break
 use Rattle.sia_journal.proofs.scan.last_gate.Goals as goal
 
 pub loop-place-init : goal.loop-place-init
-loop-place-init g c = sets_out g.D.Disk.tells g.D.Disk.seen g.D.Disk.moment g.D.Disk.since g.D.Disk.faults g.met.D.Disk.earlier c.args.disk.now c.args.window.now c.args.end c.requires.long
+loop-place-init g c = sets_out g.D.Disk.tells c.requires.long
 
 pub loop-place-preserved : goal.loop-place-preserved
 loop-place-preserved g c =
-    let Ends : Option ℕ → Type 0 = λ frame. FrameEnds (g.D.Disk.seen c.array.new.disk) c.loop-place.place frame in
+    let Ends : Option ℕ → Type 0 = λ frame. FrameEnds (g.D.Disk.standing c.array.new.disk).seen c.loop-place.place frame in
     let In : Option ℕ → Type 0 = λ frame. IfSome frame (λ next. (c.loop-place.place + 9 ≤ next) × (next ≤ c.args.end)) in
     let bounds = subst In c.in-Some.is c.in_ok-frame.ensures.within in
-    goes_further g.D.Disk.tells g.D.Disk.seen g.D.Disk.moment g.D.Disk.since g.D.Disk.faults g.met.D.Disk.earlier c.args.disk.now c.args.window.now c.args.end
-    c.loop-place.disk c.array.new.disk c.frame_end.new.disk c.loop-place.window c.array.new.self c.frame_end.new.window c.loop-place.place c.in-Some.next c.in_ok-bytes.bytes
-    c.loop-place.invariant c.requires.end c.loop-place-test.true c.in_ok-bytes.ensures.bytes c.if-gate-ne1.false
-    c.in_ok-bytes.ensures.shows c.array.ensures.quiet c.array.ensures.later
-    (λ told shown. subst Ends c.in-Some.is (c.in_ok-frame.ensures.frame told shown)) bounds.0 bounds.1
-    c.in_ok-frame.ensures.shows c.frame_end.ensures.quiet c.frame_end.ensures.later
+    goes_further g.D.Disk.tells c.array.new.self c.loop-place.invariant c.requires.end c.loop-place-test.true c.in_ok-bytes.ensures.bytes c.if-gate-ne1.false
+    c.in_ok-bytes.ensures.shows c.array.ensures.quiet (λ told shown. subst Ends c.in-Some.is (c.in_ok-frame.ensures.frame told shown)) bounds.0 bounds.1
+    c.in_ok-frame.ensures.shows c.frame_end.ensures.quiet
 
 pub returns-then-gate-ne1-clause-last : goal.returns-then-gate-ne1-clause-last
-returns-then-gate-ne1-clause-last g c = last_found g.D.Disk.tells g.D.Disk.seen g.D.Disk.moment g.D.Disk.since g.D.Disk.faults g.met.D.Disk.earlier c.args.disk.now c.args.window.now c.args.end
-    c.loop-place.disk c.loop-place.window c.loop-place.place _ c.in_ok-bytes.bytes
-    c.loop-place.invariant c.requires.end c.loop-place-test.true c.in_ok-bytes.ensures.bytes refl c.if-gate-ne1.true
+returns-then-gate-ne1-clause-last g c =
+    last_found g.D.Disk.tells c.loop-place.invariant c.requires.end c.loop-place-test.true c.in_ok-bytes.ensures.bytes refl c.if-gate-ne1.true
 
 pub returns-in-None-clause-cause : goal.returns-in-None-clause-cause
 returns-in-None-clause-cause g c =
-    let Ends : Option ℕ → Type 0 = λ frame. FrameEnds (g.D.Disk.seen c.array.new.disk) c.loop-place.place frame in
-    breaks_off g.D.Disk.tells g.D.Disk.seen g.D.Disk.moment g.D.Disk.since g.D.Disk.faults g.met.D.Disk.earlier c.args.disk.now c.args.window.now c.args.end
-    c.loop-place.disk c.array.new.disk c.loop-place.window c.array.new.self c.loop-place.place c.in_ok-bytes.bytes
-    c.loop-place.invariant c.requires.end c.loop-place-test.true c.in_ok-bytes.ensures.bytes c.if-gate-ne1.false
-    c.in_ok-bytes.ensures.shows c.array.ensures.quiet.same
-    (λ told shown. subst Ends c.in-None.is (c.in_ok-frame.ensures.frame told shown))
+    let Ends : Option ℕ → Type 0 = λ frame. FrameEnds (g.D.Disk.standing c.array.new.disk).seen c.loop-place.place frame in
+    breaks_off g.D.Disk.tells c.array.new.self c.loop-place.invariant c.requires.end c.loop-place-test.true c.in_ok-bytes.ensures.bytes c.if-gate-ne1.false
+    c.in_ok-bytes.ensures.shows c.array.ensures.quiet (λ told shown. subst Ends c.in-None.is (c.in_ok-frame.ensures.frame told shown))
 
 pub returns-in-None-clause-quiet : goal.returns-in-None-clause-quiet
-returns-in-None-clause-quiet g c = (quiet_on (quiet_on c.loop-place.invariant.quiet (g.met.D.Disk.earlier c.loop-place.disk) c.array.ensures.quiet (g.met.D.Disk.earlier c.array.new.disk)) (g.met.D.Disk.earlier c.array.new.disk) c.frame_end.ensures.quiet (g.met.D.Disk.earlier c.frame_end.new.disk))
+returns-in-None-clause-quiet g c = quiet_on (quiet_on c.loop-place.invariant.quiet c.array.ensures.quiet) c.frame_end.ensures.quiet
 
 pub returns-clause-cause : goal.returns-clause-cause
-returns-clause-cause g c = ends_open g.D.Disk.tells g.D.Disk.seen g.D.Disk.moment g.D.Disk.since g.D.Disk.faults g.met.D.Disk.earlier c.args.disk.now c.args.window.now c.args.end
-    c.loop-place.disk c.loop-place.window c.loop-place.place c.loop-place.invariant c.requires.end c.loop-place-test.false
+returns-clause-cause g c = ends_open g.D.Disk.tells c.loop-place.invariant c.requires.end c.loop-place-test.false

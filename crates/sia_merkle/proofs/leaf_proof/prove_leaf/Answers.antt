@@ -7,5 +7,5 @@ use Rattle.sia_merkle.proofs.leaf_proof.prove_leaf.Goals as goal
 
 pub returns : goal.returns
 returns c =
-    let fits : length (map leaf_digest (leaves_of c.args.bytes.now)) ≤ 2 ^ 58 = omega (arith, length-leaf_hashes c.args.bytes.now) in
-    c.in_ok-append_beside.ensures ∙ ap (λ out. out ++ hashes_beside 58 (map leaf_digest (leaves_of c.args.bytes.now)) c.args.place) c.new-hashes.ensures ∙ sym (leaf_proof-at 58 (map leaf_digest (leaves_of c.args.bytes.now)) c.args.place fits)
+    let fits : length (map leaf_digest (leaves_of c.args.bytes.now)) ≤ 2 ^ 64 = omega (arith, length-leaf_hashes c.args.bytes.now) in
+    c.in_ok-append_beside.ensures ∙ ap (λ out. out ++ hashes_beside 64 (map leaf_digest (leaves_of c.args.bytes.now)) c.args.place) c.new-hashes.ensures ∙ sym (leaf_proof-at 64 (map leaf_digest (leaves_of c.args.bytes.now)) c.args.place fits)

@@ -1,5 +1,5 @@
 use Rattle.std.proofs.Common.{◌≡◌, Ok, refl, sym}
-use Rattle.sia_ledger.specs.declared.block.Params.{Params}
+use Rattle.sia_ledger.specs.declared.params.Params.{Params}
 use Rattle.sia_program.specs.Config.{config_of}
 use Rattle.sia_program.proofs.Founding.{config_of-founds}
 use Rattle.sia_program.proofs.config.read_config.Goals as goal

@@ -2,4 +2,4 @@ use Rattle.sia_range.proofs.OwnAccepted.{own_range}
 use Rattle.sia_range.proofs.laws.own_range_is_accepted.Goals as goal
 
 pub returns : goal.returns
-returns c = own_range c.args._bytes.now c.args._a c.args._b c.requires.some c.requires.within
+returns c = own_range

@@ -1,14 +1,8 @@
-use Rattle.std.proofs.Common.{map, arith, ap, ◌∙◌}
+use Rattle.std.proofs.Common.{map, ap, ◌∙◌}
 use Rattle.sia_merkle.specs.Roots.{leaf_digest, leaves_of}
 use Rattle.sia_merkle.specs.Segments.{cover, others, places_between, segment_roots}
 use Rattle.sia_merkle.proofs.Cuts.{length-leaf_hashes}
 use Rattle.sia_range.proofs.prove.prove_update.Goals as goal
-
-pub cover_roots-requires-clause-within : goal.cover_roots-requires-clause-within
-cover_roots-requires-clause-within c = omega (arith, c.requires.within, length-leaf_hashes c.args.bytes.now)
-
-pub cover_roots-requires-2-clause-within : goal.cover_roots-requires-2-clause-within
-cover_roots-requires-2-clause-within c = omega (arith, c.requires.within, length-leaf_hashes c.args.bytes.now)
 
 pub returns-clause-inner : goal.returns-clause-inner
 returns-clause-inner c =

@@ -1,13 +1,17 @@
 use Rattle.std.proofs.Common.{inl, refl, ap, ◌∙◌}
 use Rattle.sia_two_disks.specs.Entries.{entry_of}
-use Rattle.sia_two_disks.proofs.Pairing.{stands_open}
+use Rattle.sia_two_disks.proofs.Pairing.{lists_held, stands_open, still_live}
 use Rattle.sia_two_disks.proofs.storing.store.Goals as goal
 
 pub returns-in_err-framed-clause-pairs : goal.returns-in_err-framed-clause-pairs
-returns-in_err-framed-clause-pairs g c = λ told_journal told_shelf header records size stands unnamed.
-    let opens = stands_open g.J.Disk.seen g.J.Disk.moment g.J.Disk.since c.args.journal.now header records c.args.journal.now.limit c.args.shelf.now.sector _ c.at_rest_lists.ensures size
-    c.requires.ready refl stands in
+returns-in_err-framed-clause-pairs g c = λ told_journal told_shelf header records room.
+    let opens = stands_open g.J.Disk.standing c.args.journal.now c.args.journal.now.limit c.at_rest_lists.ensures c.requires.ready refl room.stands in
     record { first = λ file image is left. inl (opens file image is left); second = λ file image is left. inl (opens file image is left) }
+
+pub returns-in_err-framed-clause-live : goal.returns-in_err-framed-clause-live
+returns-in_err-framed-clause-live g c = λ told header records holds live.
+    still_live header c.args.journal.now.limit c.args.shelf.now.marks records (g.J.Disk.standing c.args.journal.now.disk)
+    (lists_held g.J.Disk.standing c.args.journal.now c.at_rest_lists.ensures c.requires.ready holds) live
 
 pub returns-clause-opens : goal.returns-clause-opens
 returns-clause-opens g c =

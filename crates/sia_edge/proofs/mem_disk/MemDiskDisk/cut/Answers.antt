@@ -1,22 +1,28 @@
-use Rattle.std.proofs.Common.{refl}
-use Rattle.sia_edge.specs.declared.mem_disk.Event.TheVariants as event
 use Rattle.sia_edge.specs.Disk.{Shortened}
+use Rattle.sia_edge.specs.Event as event
+use Rattle.sia_edge.specs.EventLog.{start_of, events_of}
+use Rattle.sia_edge.specs.MemDisk.{DiskState}
 use Rattle.sia_edge.proofs.Tears.{shortened_none}
-use Rattle.sia_edge.proofs.MemImages.{state, still_image, logged_follows, logged_passes, idle_follows, shortened_of}
+use Rattle.sia_edge.proofs.MemImages.{state, still_image, logged_changes, shortened_of}
 use Rattle.sia_edge.proofs.mem_disk.MemDiskDisk.cut.Goals as goal
+
+-- the disk before and after
+abbrev old : goal.After-cut_begun → DiskState
+old c = state c.self.inside.bytes.items (start_of c.self.inside.event_log) (events_of c.self.inside.event_log) c.self.inside.plan
+
+abbrev new : goal.After-cut_begun → DiskState
+new c = state c.cut_begun.new.bytes.items (start_of c.note_cut.new.self) (events_of c.note_cut.new.self) c.cut_begun.new.plan
+
+-- the cut is one of what a crash may leave of it
+shortened : (c : goal.After-cut_begun) → Shortened c.args.len c.self.inside.bytes.items c.cut_begun.new.bytes.items
+shortened c = shortened_of c.cut_begun.result _ _ _ c.cut_begun.ensures.bytes
 
 pub invariant_of-self : goal.invariant_of-self
 invariant_of-self c =
-    rw c.in-Ok.ensures.ok (still_image c.self.inside.start c.self.inside.events (event.Cut c.args.len) c.cut_begun.new.bytes.items (c.self.inside.bytes.items, c.self.invariant, shortened_of c.cut_begun.result _ _ _ c.cut_begun.ensures.bytes))
+    rw (c.note_cut.ensures.start, c.note_cut.ensures.events) (still_image (start_of c.self.inside.event_log) (events_of c.self.inside.event_log) (event.Cut c.args.len) c.cut_begun.new.bytes.items
+    (c.self.inside.bytes.items, c.self.invariant, shortened c))
 
-pub returns-in-Ok-clause-images : goal.returns-in-Ok-clause-images
-returns-in-Ok-clause-images c =
-    rw (← c.self.view_is) (logged_follows (state c.self.inside.bytes.items c.self.inside.start c.self.inside.events c.self.inside.plan) (state c.cut_begun.new.bytes.items c.self.inside.start c.push.new.self c.cut_begun.new.plan) (event.Cut c.args.len) refl c.in-Ok.ensures.ok (Shortened c.args.len) (shortened_none c.args.len)
-    (shortened_of c.cut_begun.result _ _ _ c.cut_begun.ensures.bytes) (λ d image. image))
-
-pub returns-in-Ok-clause-time : goal.returns-in-Ok-clause-time
-returns-in-Ok-clause-time c = rw (← c.self.view_is) (logged_passes (state c.self.inside.bytes.items c.self.inside.start c.self.inside.events c.self.inside.plan) (state c.cut_begun.new.bytes.items c.self.inside.start c.push.new.self c.cut_begun.new.plan) (event.Cut c.args.len) refl c.in-Ok.ensures.ok c.self.invariant)
-
-pub returns-in-Err-clause-images : goal.returns-in-Err-clause-images
-returns-in-Err-clause-images c =
-    rw (← c.self.view_is) (idle_follows (state c.self.inside.bytes.items c.self.inside.start c.self.inside.events c.self.inside.plan) (state c.self.inside.bytes.items c.self.inside.start c.push.new.self c.refused.new.plan) refl c.in-Err.ensures.err refl (Shortened c.args.len) (shortened_none c.args.len))
+pub returns-clause-changes : goal.returns-clause-changes
+returns-clause-changes c =
+    rw (← c.self.view_is) (logged_changes (old c) (new c) (event.Cut c.args.len) c.note_cut.ensures.start c.note_cut.ensures.events c.cut_begun.ensures.later c.self.invariant
+    (Shortened c.args.len) (shortened_none c.args.len) (shortened c) (λ d image. image))

@@ -1,13 +1,23 @@
 use Rattle.std.proofs.Common.{refl}
-use Rattle.sia_edge.specs.declared.mem_disk.Event.TheVariants as event
-use Rattle.sia_edge.proofs.MemImages.{state, still_image, synced_only, synced_images}
+use Rattle.sia_edge.specs.Event as event
+use Rattle.sia_edge.specs.EventLog.{start_of, events_of}
+use Rattle.sia_edge.specs.MemDisk.{DiskState}
+use Rattle.sia_edge.proofs.MemImages.{state, still_image, synced_only, synced_quiet}
 use Rattle.sia_edge.proofs.mem_disk.MemDiskDisk.sync.Goals as goal
 
-pub invariant_of-self-in-Ok : goal.invariant_of-self-in-Ok
-invariant_of-self-in-Ok c = rw c.in-Ok.ensures.ok (still_image c.self.inside.start c.self.inside.events (event.Synced c.self.inside.bytes.items) c.self.inside.bytes.items refl)
+-- the disk before and after
+abbrev old : goal.After-note_sync → DiskState
+old c = state c.self.inside.bytes.items (start_of c.self.inside.event_log) (events_of c.self.inside.event_log) c.self.inside.plan
 
-pub returns-in-Ok-clause-settled : goal.returns-in-Ok-clause-settled
-returns-in-Ok-clause-settled c = synced_only (state c.self.inside.bytes.items c.self.inside.start c.self.inside.events c.self.inside.plan) (state c.self.inside.bytes.items c.self.inside.start c.note_sync.new.events c.count_call.new.self) refl c.in-Ok.ensures.ok refl
+abbrev new : goal.After-note_sync → DiskState
+new c = state c.self.inside.bytes.items (start_of c.note_sync.new.self) (events_of c.note_sync.new.self) c.count_call.new.self
 
-pub returns-in-Ok-clause-images : goal.returns-in-Ok-clause-images
-returns-in-Ok-clause-images c = rw (← c.self.view_is) (synced_images (state c.self.inside.bytes.items c.self.inside.start c.self.inside.events c.self.inside.plan) (state c.self.inside.bytes.items c.self.inside.start c.note_sync.new.events c.count_call.new.self) refl c.in-Ok.ensures.ok refl)
+pub invariant_of-self-2 : goal.invariant_of-self-2
+invariant_of-self-2 c =
+    rw (c.note_sync.ensures.start, c.note_sync.ensures.events) (still_image (start_of c.self.inside.event_log) (events_of c.self.inside.event_log) (event.Synced c.self.inside.bytes.items) c.self.inside.bytes.items refl)
+
+pub returns-clause-settled : goal.returns-clause-settled
+returns-clause-settled c = synced_only (old c) (new c) c.note_sync.ensures.start c.note_sync.ensures.events refl c.count_call.ensures.later
+
+pub returns-clause-quiet : goal.returns-clause-quiet
+returns-clause-quiet c = rw (← c.self.view_is) (synced_quiet (old c) (new c) c.note_sync.ensures.start c.note_sync.ensures.events refl c.count_call.ensures.later c.self.invariant)

@@ -1,6 +1,6 @@
 -- A ticket is drawn. While it waits the pass knows what it knew.
 use Rattle.std.proofs.Common.{rules, subst}
-use Rattle.sia_turn.specs.Steps.{Enters}
+use Rattle.sia_turn.specs.Moves.{Enters}
 use Rattle.sia_turn.proofs.Taking.{draws}
 use Rattle.sia_turn.proofs.turn.Turn.wait.Goals as goal
 

@@ -1,0 +1,7 @@
+//! Tests of the running host, for what no contract says.
+#![tactic(auto)]
+
+#[cfg(test)]
+mod numbers;
+#[cfg(test)]
+mod turn;

@@ -1,6 +1,0 @@
-use Rattle.std.proofs.Common.{◌≤◌}
-use Rattle.sia_journal.specs.Journal.{IsReady}
-use Rattle.sia_journal.proofs.tests.read_all.Given as goal
-
-abbrev pub invariant-loop : goal.invariant-loop
-invariant-loop g l = record { ready : IsReady g.D.Disk.seen l.journal; place : l.place ≤ l.journal.gate }

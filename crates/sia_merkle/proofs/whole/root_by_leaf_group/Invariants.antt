@@ -1,7 +1,0 @@
-use Rattle.std.proofs.Common.{◌≡◌, ◌*◌, map, take}
-use Rattle.sia_merkle.specs.Levels.{levels_up}
-use Rattle.sia_merkle.specs.Roots.{leaf_digest, leaves_of}
-use Rattle.sia_merkle.proofs.whole.root_by_leaf_group.Given as goal
-
-abbrev pub invariant-loop-place : goal.invariant-loop-place
-invariant-loop-place l = l.stack ≡ levels_up 6 (take (l.place * 64) (map leaf_digest (leaves_of l.bytes)))

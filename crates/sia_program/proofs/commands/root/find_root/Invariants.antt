@@ -1,0 +1,13 @@
+use Rattle.std.proofs.Common.{◌≡◌, ◌*◌, ◌^◌, ◌≤◌, length}
+use Rattle.sia_program.proofs.Soaked.{SoakedSoFar}
+use Rattle.sia_program.proofs.commands.root.find_root.Given as goal
+
+abbrev pub invariant-loop : goal.invariant-loop
+invariant-loop g l =
+    record {
+      so_far : SoakedSoFar (g.S.Source.left l.fn.input) (g.S.Source.left l.input) l.stack;
+      pushed : l.size ≡ length l.stack;
+      pieces : l.size ≡ 65536 * l.counter;
+      within : l.size ≤ 2 ^ 30;
+      later : g.S.Source.faults l.fn.input ≤ g.S.Source.faults l.input;
+    }

@@ -1,0 +1,90 @@
+-- `ledger CONFIG FEED`: a feed's blocks applied and reverted in turn, behind the genesis of a configuration, and the sums of the
+-- chain that they make (siad's doc/Consensus.md).
+use Rattle.std.specs.Prelude.{ℕ, ◌^◌, List, [], ◌∷◌, ◌++◌, codes, decimal, nat_eq, ◌==◌, if◌then◌else◌, Option, Some, None, Result, Ok, Err}
+use Rattle.std.specs.Cmp.Lexicographic.{pointwise}
+use Rattle.hex.specs.Hex.{encode_lower}
+use Rattle.sia_encoding.specs.Answer.{◌>>=◌}
+use Rattle.sia_ledger.specs.declared.fault.BlockFault.{BlockFault}
+use Rattle.sia_types.specs.declared.block.Block.{Block}
+use Rattle.sia_ledger.specs.declared.sums.Sums.{Sums}
+use Rattle.sia_ledger.specs.Chain.{Chain, height, begun, extended, shortened}
+use Rattle.sia_ledger.specs.Holdings.{tip, sums_of}
+use Rattle.sia_ledger.specs.Refusal.{refusal as refusal_of}
+use Rattle.sia_program.specs.declared.feed.FeedRecord.{FeedRecord}
+use Rattle.sia_program.specs.declared.feed.FeedRecord.TheVariants as feed_record
+use Rattle.sia_program.specs.declared.form.FilePlaces.{FilePlaces}
+use Rattle.sia_program.specs.declared.form.Form.{Form}
+use Rattle.sia_program.specs.declared.form.Form.TheVariants as form
+use Rattle.sia_program.specs.declared.stop.Refusal.{Refusal}
+use Rattle.sia_program.specs.declared.stop.Refusal.TheVariants as refusal
+use Rattle.sia_program.specs.declared.stop.Stop.{Stop}
+use Rattle.sia_program.specs.Config.{config_of}
+use Rattle.sia_program.specs.Feed.{records_of}
+use Rattle.sia_program.specs.Inputs.{within}
+use Rattle.sia_program.specs.Lines.{line}
+use Rattle.sia_program.specs.Told.{or_config_refused, or_refused}
+
+-- `ledger`, a configuration and a feed
+abbrev pub ledger_form : List (List ℕ) → Option Form
+ledger_form (command ∷ config ∷ feed ∷ []) = if pointwise nat_eq command (codes "ledger") then Some form.Ledger else None
+ledger_form _ = None
+
+-- both are files
+abbrev pub ledger_files : FilePlaces
+ledger_files = record { config = Some 1; input = Some 2 }
+
+-- a block behind a chain, or the rule of which it is judged that it breaks it
+abbrev pub judged : Chain → Block → Option BlockFault → Result Chain Refusal
+judged chain block None = Ok (extended chain block)
+judged chain block (Some rule) = Err (refusal.Block (height chain) rule)
+
+-- a block behind a chain, or the first rule that it breaks there
+unfoldable pub applied : Chain → Block → Result Chain Refusal
+applied chain block = judged chain block (refusal_of chain block)
+
+-- a chain without its last block, if it has one
+unfoldable pub reverted : Chain → Result Chain Refusal
+reverted chain = if height chain == 0 then Err refusal.NoBlock else Ok (shortened chain)
+
+-- what one record of a feed makes of a chain
+abbrev pub moved : Chain → FeedRecord → Result Chain Refusal
+moved chain (feed_record.Apply block) = applied chain block
+moved chain feed_record.Revert = reverted chain
+
+-- what the records of a feed make of a chain in turn, up to the first that is refused
+abbrev pub run : Chain → List FeedRecord → Result Chain Refusal
+run chain [] = Ok chain
+run chain (first ∷ others) = moved chain first >>= (λ next. run next others)
+
+-- the chain that a configuration of at most 65,536 bytes begins
+unfoldable pub begin : List ℕ → Result Chain Stop
+begin config = do
+  bytes ← within 65536 config
+  params ← or_config_refused (config_of bytes)
+  Ok (begun params)
+
+-- the lines of a chain's sums and its tip
+unfoldable pub sums_text : Sums → List ℕ → List ℕ
+sums_text sums tip =
+    line (codes "height") (decimal sums.height) ++
+    line (codes "tip") (encode_lower tip) ++
+    line (codes "outputs") (decimal sums.outputs) ++
+    line (codes "immature") (decimal sums.immature) ++
+    line (codes "escrow") (decimal sums.escrow) ++
+    line (codes "pool") (decimal sums.pool) ++
+    line (codes "unclaimed") (decimal sums.unclaimed) ++
+    line (codes "issued") (decimal sums.issued)
+
+-- the lines of the chain that a feed of at most 2^30 bytes makes of another
+unfoldable pub finish : Chain → List ℕ → Result (List ℕ) Stop
+finish first feed = do
+  bytes ← within (2 ^ 30) feed
+  records ← or_refused (records_of bytes)
+  chain ← or_refused (run first records)
+  Ok (sums_text (sums_of chain) (tip chain))
+
+-- the text that `ledger` prints, or why there is none. The configuration is read and judged before the feed.
+unfoldable pub ledger_outcome : List ℕ → List ℕ → Result (List ℕ) Stop
+ledger_outcome config feed = do
+  chain ← begin config
+  finish chain feed

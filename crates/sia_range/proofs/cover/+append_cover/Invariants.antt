@@ -1,4 +1,0 @@
-use Rattle.sia_range.proofs.cover.+append_cover.Given as goal
-
-abbrev pub decreases-append_cover : goal.decreases-append_cover
-decreases-append_cover g l = l.height

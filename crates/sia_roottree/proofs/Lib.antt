@@ -1,0 +1,5 @@
+mod Changes
+mod Halves
+mod Joining
+mod NodePlaces
+mod Raising

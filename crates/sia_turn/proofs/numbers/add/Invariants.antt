@@ -1,6 +1,0 @@
--- The one number is added.
-use Rattle.std.proofs.Common.{[], ◌∷◌}
-use Rattle.sia_turn.proofs.numbers.add.Given as goal
-
-abbrev pub ghosts-leave_with : goal.ghosts-leave_with
-ghosts-leave_with g a = record { added = a.number.now ∷ [] }
