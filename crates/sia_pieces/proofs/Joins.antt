@@ -9,8 +9,8 @@ use Rattle.std.proofs.lemmas.Grind.{same_number_lists, div_ceil_times}
 use Rattle.std.proofs.Math.Nat.{zero-mul, one-mul, add-mul}
 use Rattle.sia_pieces.specs.declared.piece.Piece.{Piece}
 use Rattle.sia_pieces.specs.Pieces.{value, filled, first_groups, groups, values_at}
-use Rattle.sia_pieces.specs.Joined.{HavePieces, IsJoined, AreApart, AreCutFrom, HaveLength}
-use Rattle.sia_pieces.specs.Solving.{solved, places, bytes_at}
+use Rattle.sia_pieces.specs.Joined.{HavePieces, IsJoined, HaveOwnPlaces, AreCutFrom, HaveLength}
+use Rattle.sia_pieces.specs.Solving.{solved, places, column}
 use Rattle.sia_pieces.proofs.Values.{AreElements, value_lt, other_elements, dropped_elements, elements_within}
 use Rattle.sia_pieces.proofs.Groups.{append_none}
 use Rattle.sia_pieces.proofs.Solutions.{AreDistinct, length-solved, solved_elements, solved_has, solved_only}
@@ -30,7 +30,7 @@ elements_from_all ds all = elements_within ds (λ i within. all i 0 within)
 pub place_is : (chosen : List Piece) (i : ℕ) (d : Piece) → i < length chosen → get_or (places chosen) i 0 ≡ (get_or chosen i d).place
 place_is chosen i d lt = get_or-map (λ (piece : Piece). piece.place) chosen i d 0 lt
 
-pub byte_is : (t : ℕ) (chosen : List Piece) (i : ℕ) (d : Piece) → i < length chosen → get_or (bytes_at t chosen) i 0 ≡ get_or (get_or chosen i d).bytes t 0
+pub byte_is : (t : ℕ) (chosen : List Piece) (i : ℕ) (d : Piece) → i < length chosen → get_or (column t chosen) i 0 ≡ get_or (get_or chosen i d).bytes t 0
 byte_is t chosen i d lt = get_or-map (λ (piece : Piece). get_or piece.bytes t 0) chosen i d 0 lt
 
 elements_below : (f : Piece → ℕ) (chosen : List Piece) → All (λ (piece : Piece). f piece < 256) chosen → (i : ℕ) → get_or (map f chosen) i 0 < 256
@@ -38,13 +38,13 @@ elements_below f [] all i = omega arith
 elements_below f (c ∷ cs) all zero = all 0 c (omega arith)
 elements_below f (c ∷ cs) all (suc i) = elements_below f cs (λ k d lt. all (suc k) d (omega arith)) i
 
-place_lt : (chosen : List Piece) → AreApart 16 chosen → (i : ℕ) (d : Piece) → i < length chosen → (get_or chosen i d).place < 256
+place_lt : (chosen : List Piece) → HaveOwnPlaces 16 chosen → (i : ℕ) (d : Piece) → i < length chosen → (get_or chosen i d).place < 256
 place_lt chosen apart i d lt = let h : (get_or chosen i d).place < 16 = apart.within i d lt in omega arith
 
-places_elements : (chosen : List Piece) → AreApart 16 chosen → AreElements (places chosen)
+places_elements : (chosen : List Piece) → HaveOwnPlaces 16 chosen → AreElements (places chosen)
 places_elements chosen apart = elements_below (λ (piece : Piece). piece.place) chosen (λ k d lt. place_lt chosen apart k d lt)
 
-places_distinct : (c : Piece) (cs : List Piece) → AreApart 16 (c ∷ cs) → AreDistinct (places (c ∷ cs))
+places_distinct : (c : Piece) (cs : List Piece) → HaveOwnPlaces 16 (c ∷ cs) → AreDistinct (places (c ∷ cs))
 places_distinct c cs apart = λ i j less lt.
     let long : length (places (c ∷ cs)) ≡ length (c ∷ cs) = length-map (c ∷ cs) (λ (piece : Piece). piece.place) in
     let within : j < length (c ∷ cs) = omega arith in
@@ -54,33 +54,33 @@ places_distinct c cs apart = λ i j less lt.
 -- ---- the groups that the code finds
 
 abbrev pub found_groups : List Piece → ℕ → List (List ℕ)
-found_groups chosen count = map (λ t. solved (places chosen) (bytes_at t chosen)) (range_with_len 0 count)
+found_groups chosen count = map (λ t. solved (places chosen) (column t chosen)) (range_with_len 0 count)
 
 length-found : (chosen : List Piece) (count : ℕ) → length (found_groups chosen count) ≡ count
-length-found chosen count = length-map (range_with_len 0 count) (λ t. solved (places chosen) (bytes_at t chosen)) ∙ length-range_with_len 0 count
+length-found chosen count = length-map (range_with_len 0 count) (λ t. solved (places chosen) (column t chosen)) ∙ length-range_with_len 0 count
 
-found_at : (chosen : List Piece) (count t : ℕ) (d : List ℕ) → t < count → get_or (found_groups chosen count) t d ≡ solved (places chosen) (bytes_at t chosen)
-found_at chosen count t d lt = get_or-map-range_with_len (λ t. solved (places chosen) (bytes_at t chosen)) 0 count t t d lt (omega arith)
+found_at : (chosen : List Piece) (count t : ℕ) (d : List ℕ) → t < count → get_or (found_groups chosen count) t d ≡ solved (places chosen) (column t chosen)
+found_at chosen count t d lt = get_or-map-range_with_len (λ t. solved (places chosen) (column t chosen)) 0 count t t d lt (omega arith)
 
-same_length : (t : ℕ) (chosen : List Piece) → length (bytes_at t chosen) ≡ length (places chosen)
+same_length : (t : ℕ) (chosen : List Piece) → length (column t chosen) ≡ length (places chosen)
 same_length t chosen = length-map chosen (λ (piece : Piece). get_or piece.bytes t 0) ∙ sym (length-map chosen (λ (piece : Piece). piece.place))
 
 -- byte t of the values at a place is the value of group t
 value_at_is : (place : ℕ) (gs : List (List ℕ)) (t : ℕ) → t < length gs → get_or (values_at place gs) t 0 ≡ value (get_or gs t []) place
 value_at_is place gs t lt = get_or-map (λ (group : List ℕ). value group place) gs t [] 0 lt
 
-pub found_have : (c : Piece) (cs : List Piece) (count : ℕ) → AreApart 16 (c ∷ cs) → HaveLength count (c ∷ cs) → ((t : ℕ) → t < count → AreElements (bytes_at t (c ∷ cs))) → HavePieces (length (c ∷ cs)) (c ∷ cs) (found_groups (c ∷ cs) count)
+pub found_have : (c : Piece) (cs : List Piece) (count : ℕ) → HaveOwnPlaces 16 (c ∷ cs) → HaveLength count (c ∷ cs) → ((t : ℕ) → t < count → AreElements (column t (c ∷ cs))) → HavePieces (length (c ∷ cs)) (c ∷ cs) (found_groups (c ∷ cs) count)
 found_have c cs count apart long elements =
     let chosen : List Piece = c ∷ cs in
     let size : length (places chosen) ≡ length chosen = length-map chosen (λ (piece : Piece). piece.place) in
     record {
       sized = λ t d lt.
           let within : t < count = omega (arith, length-found chosen count) in
-          ap length (found_at chosen count t d within) ∙ length-solved (places chosen) (bytes_at t chosen) (same_length t chosen) ∙ size;
+          ap length (found_at chosen count t d within) ∙ length-solved (places chosen) (column t chosen) (same_length t chosen) ∙ size;
       bytes = λ t d lt.
           let within : t < count = omega (arith, length-found chosen count) in
-          let all : All (λ (b : ℕ). b < 256) (solved (places chosen) (bytes_at t chosen)) =
-          all_from_elements (solved (places chosen) (bytes_at t chosen)) (solved_elements (places chosen) (bytes_at t chosen) (places_elements chosen apart) (elements t within)) in
+          let all : All (λ (b : ℕ). b < 256) (solved (places chosen) (column t chosen)) =
+          all_from_elements (solved (places chosen) (column t chosen)) (solved_elements (places chosen) (column t chosen) (places_elements chosen apart) (elements t within)) in
           subst (λ (g : List ℕ). All (λ (b : ℕ). b < 256) g) (sym (found_at chosen count t d within)) all;
       values = λ i d lt.
           same_number_lists (values_at (get_or chosen i d).place (found_groups chosen count)) (get_or chosen i d).bytes
@@ -92,20 +92,20 @@ found_have c cs count apart long elements =
           let at : i < length (places chosen) = omega arith in
           value_at_is (get_or chosen i d).place (found_groups chosen count) t inside
           ∙ ap (λ g. value g (get_or chosen i d).place) (found_at chosen count t [] within)
-          ∙ ap (value (solved (places chosen) (bytes_at t chosen))) (sym (place_is chosen i d lt))
-          ∙ solved_has (places chosen) (bytes_at t chosen) (same_length t chosen) (places_distinct c cs apart) (places_elements chosen apart) (elements t within) i at
+          ∙ ap (value (solved (places chosen) (column t chosen))) (sym (place_is chosen i d lt))
+          ∙ solved_has (places chosen) (column t chosen) (same_length t chosen) (places_distinct c cs apart) (places_elements chosen apart) (elements t within) i at
           ∙ byte_is t chosen i d lt);
     }
 
 -- the bytes of those groups stand for the pieces
-pub joined_is : (chosen : List Piece) (k count : ℕ) (joined : List ℕ) → 1 ≤ k → length chosen ≡ k → AreApart 16 chosen → HaveLength (div_ceil count k) chosen → ((t : ℕ) → t < div_ceil count k → AreElements (bytes_at t chosen)) → joined ≡ take count (concat (found_groups chosen (div_ceil count k))) → IsJoined k chosen count joined
+pub joined_is : (chosen : List Piece) (k count : ℕ) (joined : List ℕ) → 1 ≤ k → length chosen ≡ k → HaveOwnPlaces 16 chosen → HaveLength (div_ceil count k) chosen → ((t : ℕ) → t < div_ceil count k → AreElements (column t chosen)) → joined ≡ take count (concat (found_groups chosen (div_ceil count k))) → IsJoined k chosen count joined
 joined_is [] k count joined some all apart long elements is = absurd (omega arith)
 joined_is (c ∷ cs) k count joined some all apart long elements is =
     let have : HavePieces (length (c ∷ cs)) (c ∷ cs) (found_groups (c ∷ cs) (div_ceil count k)) = found_have c cs (div_ceil count k) apart long elements in
     (found_groups (c ∷ cs) (div_ceil count k), subst (λ m. HavePieces m (c ∷ cs) (found_groups (c ∷ cs) (div_ceil count k))) all have, is)
 
 -- the same, told by how they were joined
-pub joined_from : (chosen : List Piece) (k count groups : ℕ) (front all joined : List ℕ) → 1 ≤ k → length chosen ≡ k → AreApart 16 chosen → HaveLength (div_ceil count k) chosen → groups ≡ div_ceil count k → ((t : ℕ) → t < groups → AreElements (bytes_at t chosen)) → front ≡ [] → all ≡ front ++ concat (found_groups chosen groups) → joined ≡ take count all → IsJoined k chosen count joined
+pub joined_from : (chosen : List Piece) (k count groups : ℕ) (front all joined : List ℕ) → 1 ≤ k → length chosen ≡ k → HaveOwnPlaces 16 chosen → HaveLength (div_ceil count k) chosen → groups ≡ div_ceil count k → ((t : ℕ) → t < groups → AreElements (column t chosen)) → front ≡ [] → all ≡ front ++ concat (found_groups chosen groups) → joined ≡ take count all → IsJoined k chosen count joined
 joined_from chosen k count groups front all joined some many apart long so elements none whole is =
     joined_is chosen k count joined some many apart long
     (λ t lt. elements t (subst (λ n. t < n) (sym so) lt))
@@ -121,12 +121,12 @@ value_is_byte : (k : ℕ) (chosen : List Piece) (gs : List (List ℕ)) → HaveP
 value_is_byte k chosen gs have t d lt i e within =
     sym (get_or-map (λ (group : List ℕ). value group (get_or chosen i e).place) gs t d 0 lt) ∙ ap (λ bs. get_or bs t 0) (have.values i e within)
 
-one_group : (count : ℕ) (c : Piece) (cs : List Piece) (gs : List (List ℕ)) → AreApart 16 (c ∷ cs) → HaveLength count (c ∷ cs) → HavePieces (length (c ∷ cs)) (c ∷ cs) gs → (t : ℕ) (d : List ℕ) → t < length gs → t < count → get_or gs t d ≡ solved (places (c ∷ cs)) (bytes_at t (c ∷ cs))
+one_group : (count : ℕ) (c : Piece) (cs : List Piece) (gs : List (List ℕ)) → HaveOwnPlaces 16 (c ∷ cs) → HaveLength count (c ∷ cs) → HavePieces (length (c ∷ cs)) (c ∷ cs) gs → (t : ℕ) (d : List ℕ) → t < length gs → t < count → get_or gs t d ≡ solved (places (c ∷ cs)) (column t (c ∷ cs))
 one_group count c cs gs apart long have t d lt within =
     let chosen : List Piece = c ∷ cs in
     let size : length (places chosen) ≡ length chosen = length-map chosen (λ (piece : Piece). piece.place) in
     let all : AreElements (get_or gs t d) = elements_from_all (get_or gs t d) (have.bytes t d lt) in
-    solved_only (places chosen) (bytes_at t chosen) (get_or gs t d) (same_length t chosen) (have.sized t d lt ∙ sym size) (places_distinct c cs apart) (places_elements chosen apart)
+    solved_only (places chosen) (column t chosen) (get_or gs t d) (same_length t chosen) (have.sized t d lt ∙ sym size) (places_distinct c cs apart) (places_elements chosen apart)
     (elements_below (λ (piece : Piece). get_or piece.bytes t 0) chosen
     (λ i e h. subst (λ b. b < 256) (value_is_byte (length chosen) chosen gs have t d lt i e h)
     (value_lt (get_or gs t d) (get_or chosen i e).place (place_lt chosen apart i e h) all)))
@@ -136,7 +136,7 @@ one_group count c cs gs apart long have t d lt within =
     ap (value (get_or gs t d)) (place_is chosen i c at) ∙ value_is_byte (length chosen) chosen gs have t d lt i c at ∙ sym (byte_is t chosen i c at))
 
 -- groups that have the pieces are those that the code finds
-pub found_only : (count : ℕ) (c : Piece) (cs : List Piece) (gs : List (List ℕ)) → AreApart 16 (c ∷ cs) → HaveLength count (c ∷ cs) → HavePieces (length (c ∷ cs)) (c ∷ cs) gs → gs ≡ found_groups (c ∷ cs) count
+pub found_only : (count : ℕ) (c : Piece) (cs : List Piece) (gs : List (List ℕ)) → HaveOwnPlaces 16 (c ∷ cs) → HaveLength count (c ∷ cs) → HavePieces (length (c ∷ cs)) (c ∷ cs) gs → gs ≡ found_groups (c ∷ cs) count
 found_only count c cs gs apart long have =
     let chosen : List Piece = c ∷ cs in
     let many : length gs ≡ count = count_of_groups (length chosen) count c cs gs long have in
@@ -218,7 +218,7 @@ groups_hold (suc count) k bytes le =
     ]
 
 -- some pieces of bytes are had by the bytes' groups
-cut_have : (k n : ℕ) (bytes : List ℕ) (chosen : List Piece) → All (λ (byte : ℕ). byte < 256) bytes → AreApart n chosen → AreCutFrom k n bytes chosen → HavePieces k chosen (groups k bytes)
+cut_have : (k n : ℕ) (bytes : List ℕ) (chosen : List Piece) → All (λ (byte : ℕ). byte < 256) bytes → HaveOwnPlaces n chosen → AreCutFrom k n bytes chosen → HavePieces k chosen (groups k bytes)
 cut_have k n bytes chosen all apart cut = record {
   sized = groups_sized (div_ceil (length bytes) k) k bytes;
   bytes = groups_elements (div_ceil (length bytes) k) k bytes (elements_from_all bytes all);
@@ -231,7 +231,7 @@ cut_long : (k n : ℕ) (bytes : List ℕ) (chosen : List Piece) → HavePieces k
 cut_long k n bytes chosen have i d lt =
     sym (ap length (have.values i d lt)) ∙ length-map (groups k bytes) (λ (group : List ℕ). value group (get_or chosen i d).place) ∙ length-groups (div_ceil (length bytes) k) k bytes
 
-pub stand_for_one : (joined other : List ℕ) (k count : ℕ) (chosen : List Piece) → 1 ≤ k → length chosen ≡ k → AreApart 16 chosen → HaveLength (div_ceil count k) chosen → IsJoined k chosen count joined → IsJoined k chosen count other → joined ≡ other
+pub stand_for_one : (joined other : List ℕ) (k count : ℕ) (chosen : List Piece) → 1 ≤ k → length chosen ≡ k → HaveOwnPlaces 16 chosen → HaveLength (div_ceil count k) chosen → IsJoined k chosen count joined → IsJoined k chosen count other → joined ≡ other
 stand_for_one joined other k count [] some all apart long is is' = absurd (omega arith)
 stand_for_one joined other k count (c ∷ cs) some all apart long is is' =
     is.2 ∙ ap (λ gs. take count (concat gs)) (only is.0 is.1 ∙ sym (only is'.0 is'.1)) ∙ sym is'.2
@@ -239,10 +239,10 @@ stand_for_one joined other k count (c ∷ cs) some all apart long is is' =
     only : (gs : List (List ℕ)) → HavePieces k (c ∷ cs) gs → gs ≡ found_groups (c ∷ cs) (div_ceil count k)
     only gs have = found_only (div_ceil count k) c cs gs apart long (subst (λ m. HavePieces m (c ∷ cs) gs) (sym all) have)
 
-pub come_back : (bytes joined : List ℕ) (k n : ℕ) (chosen : List Piece) → All (λ (byte : ℕ). byte < 256) bytes → 1 ≤ k → k ≤ n → n ≤ 16 → length chosen ≡ k → AreApart n chosen → AreCutFrom k n bytes chosen → IsJoined k chosen (length bytes) joined → joined ≡ bytes
+pub come_back : (bytes joined : List ℕ) (k n : ℕ) (chosen : List Piece) → All (λ (byte : ℕ). byte < 256) bytes → 1 ≤ k → k ≤ n → n ≤ 16 → length chosen ≡ k → HaveOwnPlaces n chosen → AreCutFrom k n bytes chosen → IsJoined k chosen (length bytes) joined → joined ≡ bytes
 come_back bytes joined k n chosen elements some enough within all apart cut is =
     let have : HavePieces k chosen (groups k bytes) = cut_have k n bytes chosen elements apart cut in
-    let apart' : AreApart 16 chosen = record { within = λ i d lt. lower (get_or chosen i d).place n (apart.within i d lt) within; differ = apart.differ } in
+    let apart' : HaveOwnPlaces 16 chosen = record { within = λ i d lt. lower (get_or chosen i d).place n (apart.within i d lt) within; differ = apart.differ } in
     let hold : take (length bytes) (concat (groups k bytes)) ≡ bytes = groups_hold (div_ceil (length bytes) k) k bytes ((div_ceil_times (length bytes) k some).0) in
     stand_for_one joined bytes k (length bytes) chosen some all apart' (cut_long k n bytes chosen have) is (groups k bytes, have, sym hold)
   where

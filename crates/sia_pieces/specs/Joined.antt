@@ -33,7 +33,7 @@ abbrev pub HaveByte : ℕ → List Piece → Type 0
 HaveByte t chosen = All (λ (piece : Piece). t < length piece.bytes) chosen
 
 -- different places below n
-pub record AreApart (n : ℕ) (chosen : List Piece) : Type 0 where
+pub record HaveOwnPlaces (n : ℕ) (chosen : List Piece) : Type 0 where
   pub within : AreBelow n chosen
   pub differ : AllPairs (λ (piece other : Piece). piece.place ≢ other.place) chosen
 
@@ -45,10 +45,10 @@ AreCutFrom k n bytes chosen = All (λ (piece : Piece). slice_index_or (pieces k 
 abbrev pub PiecesComeBack : Type 0
 PiecesComeBack =
     (bytes joined : List ℕ) (k n : ℕ) (chosen : List Piece) → All (λ (byte : ℕ). byte < 256) bytes → 1 ≤ k → k ≤ n → n ≤ 16
-    → length chosen ≡ k → AreApart n chosen → AreCutFrom k n bytes chosen → IsJoined k chosen (length bytes) joined → joined ≡ bytes
+    → length chosen ≡ k → HaveOwnPlaces n chosen → AreCutFrom k n bytes chosen → IsJoined k chosen (length bytes) joined → joined ≡ bytes
 
 -- any k pieces of one length stand for one list of bytes at most
 abbrev pub PiecesStandForOne : Type 0
 PiecesStandForOne =
-    (joined other : List ℕ) (k count : ℕ) (chosen : List Piece) → 1 ≤ k → length chosen ≡ k → AreApart 16 chosen
+    (joined other : List ℕ) (k count : ℕ) (chosen : List Piece) → 1 ≤ k → length chosen ≡ k → HaveOwnPlaces 16 chosen
     → HaveLength (div_ceil count k) chosen → IsJoined k chosen count joined → IsJoined k chosen count other → joined ≡ other

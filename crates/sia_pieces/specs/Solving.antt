@@ -34,5 +34,5 @@ abbrev pub places : List Piece → List ℕ
 places chosen = map (λ (piece : Piece). piece.place) chosen
 
 -- byte t of each piece
-abbrev pub bytes_at : ℕ → List Piece → List ℕ
-bytes_at t chosen = map (λ (piece : Piece). slice_index piece.bytes t) chosen
+abbrev pub column : ℕ → List Piece → List ℕ
+column t chosen = map (λ (piece : Piece). slice_index piece.bytes t) chosen

@@ -2,8 +2,8 @@
 ghost use Rattle.std.specs.Prelude.{◌≡◌, ◌<◌, ◌≤◌, ◌++◌, ℕ, length, IfOk, OnOk, map, slice_index};
 ghost use Rattle.std.specs.Int.{div_ceil};
 ghost use Rattle.std.specs.List.{concat, range_with_len};
-ghost use Rattle.sia_pieces.specs.Joined.{AreApart, AreSoMany, AreBelow, HaveLength, IsJoined};
-ghost use Rattle.sia_pieces.specs.Solving.{solved, places, bytes_at};
+ghost use Rattle.sia_pieces.specs.Joined.{HaveOwnPlaces, AreSoMany, AreBelow, HaveLength, IsJoined};
+ghost use Rattle.sia_pieces.specs.Solving.{solved, places, column};
 
 use crate::Piece;
 use crate::solve::{put_bytes, solve};
@@ -16,7 +16,7 @@ pub fn join_pieces(alloc: Global, pieces: &[Piece], k: u64, length: u64) -> Resu
     requires some { 1 ≤ k }
     requires within { k ≤ 16 }
     requires all { AreSoMany k pieces.now }
-    requires apart { AreApart 16 pieces.now }
+    requires apart { HaveOwnPlaces 16 pieces.now }
     requires long { HaveLength (div_ceil length k) pieces.now }
     ensures { IfOk result (λ joined. IsJoined k pieces.now length joined) }
 {
@@ -38,8 +38,8 @@ fn join_groups(
     requires same { length pieces.now ≡ length group.old }
     requires within { AreBelow 16 pieces.now }
     requires long { HaveLength count pieces.now }
-    ensures bytes { OnOk result ((t : ℕ) → t < count → (i : ℕ) → slice_index (bytes_at t pieces.now) i < 256) }
-    ensures groups { OnOk result (joined.new ≡ joined.old ++ concat (map (λ t. solved (places pieces.now) (bytes_at t pieces.now)) (range_with_len 0 count))) }
+    ensures bytes { OnOk result ((t : ℕ) → t < count → (i : ℕ) → slice_index (column t pieces.now) i < 256) }
+    ensures groups { OnOk result (joined.new ≡ joined.old ++ concat (map (λ t. solved (places pieces.now) (column t pieces.now)) (range_with_len 0 count))) }
 {
     for t in 0..count {
         put_bytes(t, pieces, group);

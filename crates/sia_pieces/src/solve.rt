@@ -1,7 +1,7 @@
 //! The coefficients of a polynomial from its values, by divided differences, in place of the values.
 ghost use Rattle.std.specs.Prelude.{◌≡◌, ◌<◌, ℕ, length, slice_index};
 ghost use Rattle.sia_pieces.specs.Joined.{AreBelow, HaveByte};
-ghost use Rattle.sia_pieces.specs.Solving.{slopes, raised, solved, places, bytes_at};
+ghost use Rattle.sia_pieces.specs.Solving.{slopes, raised, solved, places, column};
 
 use crate::field::inverse;
 use crate::{Piece, gf_mul};
@@ -47,7 +47,7 @@ fn raise(place: u8, values: &mut [u8])
 pub(crate) fn put_bytes(t: usize, pieces: &[Piece], values: &mut [u8])
     requires same { length pieces.now ≡ length values.old }
     requires long { HaveByte t pieces.now }
-    ensures bytes { values.new ≡ bytes_at t pieces.now }
+    ensures bytes { values.new ≡ column t pieces.now }
     ensures elements { (i : ℕ) → slice_index values.new i < 256 }
 {
     for i in 0..values.len() {

@@ -3,7 +3,7 @@ use Rattle.std.specs.Prelude.{slice_index}
 use Rattle.std.proofs.lemmas.Grind.{same_number_lists}
 use Rattle.std.proofs.lemmas.List.{length-map}
 use Rattle.sia_pieces.specs.declared.piece.Piece.{Piece}
-use Rattle.sia_pieces.specs.Solving.{bytes_at}
+use Rattle.sia_pieces.specs.Solving.{column}
 use Rattle.sia_pieces.proofs.Joins.{byte_is}
 use Rattle.sia_pieces.proofs.Values.{elements_within}
 use Rattle.sia_pieces.proofs.solve.put_bytes.Goals as goal
@@ -27,8 +27,8 @@ loop-i-preserved c = record {
 pub returns : goal.returns
 returns c = record {
   bytes =
-      same_number_lists c.loop-i.values (bytes_at c.args.t c.args.pieces.now)
-      (let e : length (bytes_at c.args.t c.args.pieces.now) ≡ length c.args.pieces.now = length-map c.args.pieces.now (λ (piece : Piece). slice_index piece.bytes c.args.t) in omega arith)
+      same_number_lists c.loop-i.values (column c.args.t c.args.pieces.now)
+      (let e : length (column c.args.t c.args.pieces.now) ≡ length c.args.pieces.now = length-map c.args.pieces.now (λ (piece : Piece). slice_index piece.bytes c.args.t) in omega arith)
       (λ m h. c.loop-i.invariant.bytes m (omega arith));
   elements = elements_within c.loop-i.values (λ m h. c.loop-i.invariant.elements m (omega arith));
 }
