@@ -1,12 +1,16 @@
 -- The groups of a byte string, one after another.
-use Rattle.std.proofs.Common.{◌≡◌, ℕ, zero, suc, ◌+◌, ◌-◌, ◌*◌, ◌<◌, ◌≤◌, List, [], ◌∷◌, ◌++◌, length, take, drop, sym, ◌∙◌, ap, arith}
+use Rattle.std.proofs.Common.{◌≡◌, ℕ, zero, suc, ◌+◌, ◌-◌, ◌*◌, ◌<◌, ◌≤◌, List, [], ◌∷◌, ◌++◌, length, take, drop, refl, sym, ◌∙◌, ap, arith, map, append_assoc}
 use Rattle.std.specs.Int.{div_ceil}
-use Rattle.std.specs.List.{range_with_len}
+use Rattle.std.specs.List.{concat, range_with_len}
 use Rattle.std.proofs.lemmas.Grind.{div_ceil_times}
 use Rattle.std.proofs.lemmas.List.{drop-drop, map-append}
 use Rattle.std.proofs.Math.Nat.{zero-mul, mul-le-mul_right, add-mul, one-mul}
 use Rattle.sia_pieces.specs.Pieces.{filled, first_groups, values_at, value}
 use Rattle.sia_pieces.proofs.Values.{value_of_filled}
+
+pub append_none : (xs : List ℕ) → xs ++ [] ≡ xs
+append_none [] = refl
+append_none (x ∷ xs) = ap (λ ys. x ∷ ys) (append_none xs)
 
 -- one group more
 pub groups_more : (t k : ℕ) (bytes : List ℕ) → first_groups (t + 1) k bytes ≡ first_groups t k bytes ++ filled k (take k (drop (t * k) bytes)) ∷ []
@@ -51,3 +55,22 @@ numbers_more n =
 -- what a list is after one more element
 pub pushed_on : {X : Type 0} {new items before after : List X} {b b' : X} → new ≡ items ++ b ∷ [] → items ≡ before → b ≡ b' → after ≡ before ++ b' ∷ [] → new ≡ after
 pushed_on {before = before} {b = b} e is h g = e ∙ ap (λ xs. xs ++ b ∷ []) is ∙ ap (λ last. before ++ last ∷ []) h ∙ sym g
+
+concat_last : (xss : List (List ℕ)) (ys : List ℕ) → concat (xss ++ ys ∷ []) ≡ concat xss ++ ys
+concat_last [] ys = append_none ys
+concat_last (xs ∷ xss) ys = ap (λ zs. xs ++ zs) (concat_last xss ys) ∙ sym (append_assoc xs (concat xss) ys)
+
+-- lists that are told by a number, joined, and one more
+pub concat_more : (f : ℕ → List ℕ) (n : ℕ) → concat (map f (range_with_len 0 (n + 1))) ≡ concat (map f (range_with_len 0 n)) ++ f n
+concat_more f n =
+    ap (λ ns. concat (map f ns)) (numbers_more n)
+    ∙ ap concat (map-append f (range_with_len 0 n) (n ∷ []))
+    ∙ concat_last (map f (range_with_len 0 n)) (f n)
+
+-- such a list behind some bytes, and one more
+pub joined_on : (new items before group : List ℕ) (f : ℕ → List ℕ) (t : ℕ) → new ≡ items ++ group → items ≡ before ++ concat (map f (range_with_len 0 t)) → group ≡ f t → new ≡ before ++ concat (map f (range_with_len 0 (t + 1)))
+joined_on new items before group f t e is one =
+    e
+    ∙ ap (λ bs. bs ++ group) is
+    ∙ append_assoc before (concat (map f (range_with_len 0 t))) group
+    ∙ ap (λ bs. before ++ bs) (ap (λ g. concat (map f (range_with_len 0 t)) ++ g) one ∙ sym (concat_more f t))

@@ -1,6 +1,8 @@
 -- The value of a polynomial, coefficient by coefficient.
-use Rattle.std.proofs.Common.{◌≡◌, ℕ, zero, suc, ◌+◌, ◌-◌, ◌<◌, ◌≤◌, bit_xor, List, [], ◌∷◌, ◌++◌, length, get_or, drop, replicate, refl, sym, ◌∙◌, ap, subst, arith, drop-cons, add-one}
+use Rattle.std.proofs.Common.{◌≡◌, ℕ, zero, suc, ◌+◌, ◌-◌, ◌<◌, ◌≤◌, bit_xor, List, [], ◌∷◌, ◌++◌, length, get_or, drop, replicate, refl, sym, ◌∙◌, ap, subst, arith, drop-cons, add-one, inl, inr}
 use Rattle.std.proofs.lemmas.Nat.{xor_of_8}
+use Rattle.std.proofs.lemmas.Bool.{cases_lt}
+use Rattle.std.proofs.lemmas.List.{get_or_past}
 use Rattle.sia_pieces.specs.Field.{product, power}
 use Rattle.sia_pieces.specs.Pieces.{sum_of_terms, value}
 use Rattle.sia_pieces.proofs.FieldLaws.{product_of_sum, product_lt, product-zero, zero-product, one-product, product_comm, product_assoc, power_lt}
@@ -16,7 +18,7 @@ pub other_elements : (d : ℕ) (ds : List ℕ) → AreElements (d ∷ ds) → Ar
 other_elements d ds all = λ i. all (suc i)
 
 -- a factor goes into another one's product
-swapped_factors : (a b c : ℕ) → a < 256 → b < 256 → c < 256 → product a (product b c) ≡ product b (product a c)
+pub swapped_factors : (a b c : ℕ) → a < 256 → b < 256 → c < 256 → product a (product b c) ≡ product b (product a c)
 swapped_factors a b c ha hb hc = sym (product_assoc a b c ha hb hc) ∙ ap (λ p. product p c) (product_comm a b ha hb) ∙ product_assoc b a c hb ha hc
 
 -- terms of the next powers are the products with x
@@ -65,3 +67,11 @@ unfolding sum_of_terms
 value_of_filled [] zero x n = refl
 value_of_filled [] (suc m) x n = rw (zero-product (power x n)) (value_of_filled [] m x (suc n))
 value_of_filled (d ∷ ds) m x n = ap (bit_xor (product d (power x n))) (value_of_filled ds m x (suc n))
+
+-- elements as far as the list goes are elements
+pub elements_within : (ds : List ℕ) → ((i : ℕ) → i < length ds → get_or ds i 0 < 256) → AreElements ds
+elements_within ds all = λ i.
+    elim (cases_lt i (length ds)) [
+      | inl within ↦ all i within
+      | inr past ↦ let e : 0 ≡ get_or ds i 0 = sym (get_or_past ds i 0 past) in subst (λ (d : ℕ). d < 256) e (omega arith)
+    ]

@@ -1,2 +1,4 @@
 pub mod Field
+pub mod Joined
 pub mod Pieces
+pub mod Solving

@@ -30,8 +30,8 @@ groups k bytes = first_groups (div_ceil (length bytes) k) k bytes
 
 -- the values of some groups at a place
 abbrev pub values_at : ℕ → List (List ℕ) → List ℕ
-values_at place groups = map (λ group. value group place) groups
+values_at place groups = map (λ (group : List ℕ). value group place) groups
 
 -- the pieces 0 to n - 1
 abbrev pub pieces : ℕ → ℕ → List ℕ → List (List ℕ)
-pieces k n bytes = map (λ place. values_at place (groups k bytes)) (range_with_len 0 n)
+pieces k n bytes = map (λ (place : ℕ). values_at place (groups k bytes)) (range_with_len 0 n)

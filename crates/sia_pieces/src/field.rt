@@ -1,6 +1,7 @@
 //! Products and inverses in the field of 256 elements, by tables of the powers of x and of their exponents.
-ghost use Rattle.std.specs.Prelude.{◌≡◌, ◌<◌};
+ghost use Rattle.std.specs.Prelude.{◌≡◌};
 ghost use Rattle.sia_pieces.specs.Field.{product};
+ghost use Rattle.sia_pieces.specs.Solving.{reciprocal};
 
 /// The powers of x, whose bits are 2, by their exponents below 255. Each element but 0 is one of them.
 static POWERS: [u8; 255] = [
@@ -50,7 +51,7 @@ pub fn gf_mul(a: u8, b: u8) -> u8
 
 /// The element whose product with `a` is 1. For 0 there is none.
 pub(crate) fn inverse(a: u8) -> u8
-    ensures { 0 < a → product a result ≡ 1 }
+    ensures { result ≡ reciprocal a }
 {
     POWERS[(255 - EXPONENTS[a as usize] as usize) % 255]
 }
