@@ -1,0 +1,2 @@
+pub mod SignedText
+pub mod Seal
