@@ -13,6 +13,8 @@ mod encoding;
 #[cfg(test)]
 mod merkle;
 #[cfg(test)]
+mod pieces;
+#[cfg(test)]
 mod range;
 #[cfg(test)]
 mod roottree;
