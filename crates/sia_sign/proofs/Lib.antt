@@ -1,1 +1,4 @@
+mod Finding
+mod FirstFault
+mod Missing
 mod Seals

@@ -1,2 +1,5 @@
+pub mod Needs
 pub mod SignedText
+pub mod Frivolous
+pub mod Faults
 pub mod Seal
