@@ -12,7 +12,7 @@ use Rattle.std.proofs.lemmas.Int.Digits.{first_digits_of}
 use Rattle.std.proofs.lemmas.List.{get_or-map, length-map}
 use Rattle.std.proofs.lemmas.Str.{IsUtf8-from_ascii}
 use Rattle.std.proofs.lemmas.Str.Parse.{numerals_by_value, not_in_digits, parse_plain, tells_digits}
-use Rattle.sia_range.proofs.Judging.{one_text}
+use Rattle.sia_merkle.proofs.Climbs.{one_text}
 use Rattle.sia_program.specs.Words.{begins_otherwise, number_of}
 
 number_is : (word : List ℕ) → word ≡ decimal (digits_value 10 word) → digits_value 10 word < 2 ^ 64 → number_of word ≡ Some (digits_value 10 word)

@@ -9,7 +9,7 @@ use Rattle.toml.specs.View.{view, items_view}
 use Rattle.toml.specs.declared.value.Value.{Value}
 use Rattle.toml.proofs.Views.{items_view-drop}
 use Rattle.sia_types.specs.declared.funds.FundOutput.{FundOutput}
-use Rattle.sia_program.specs.Config.{between, address_of, fund_of_entry, siafund_of, siafund_sum, siafunds_of_items}
+use Rattle.sia_program.specs.Config.{between, address_of, fund_to, siafund_of, siafund_sum, siafunds_of_items}
 
 -- the outputs that were read, and then those of the tables from index i on
 abbrev pub read_from : List FundOutput → List Value → ℕ → Option (List FundOutput)
@@ -45,14 +45,14 @@ siafund_of-bounds d fund e = of_parts (option_and_then address_of (option_and_th
     value_in n None = n
     value_in n (Some f) = f.value
 
-    of_value : (address : List ℕ) (value : Option ℕ) → ((n : ℕ) → value ≡ Some n → (1 ≤ n) × (n ≤ 10000)) → option_map (fund_of_entry address) value ≡ Some fund → (1 ≤ fund.value) × (fund.value ≤ 10000)
+    of_value : (address : List ℕ) (value : Option ℕ) → ((n : ℕ) → value ≡ Some n → (1 ≤ n) × (n ≤ 10000)) → option_map (fund_to address) value ≡ Some fund → (1 ≤ fund.value) × (fund.value ≤ 10000)
     of_value address None within made = absurd (cc)
     of_value address (Some n) within made =
         let bounds = within n refl in
         let same : n ≡ fund.value = ap (λ f. value_in n f) made in
         rw (← same) bounds
 
-    of_parts : (to : Option (List ℕ)) (z : Option ℤ) → option_and_then (λ address. option_map (fund_of_entry address) (between 1 10000 z)) to ≡ Some fund → (1 ≤ fund.value) × (fund.value ≤ 10000)
+    of_parts : (to : Option (List ℕ)) (z : Option ℤ) → option_and_then (λ address. option_map (fund_to address) (between 1 10000 z)) to ≡ Some fund → (1 ≤ fund.value) × (fund.value ≤ 10000)
     of_parts None z made = absurd (cc)
     of_parts (Some address) z made = of_value address (between 1 10000 z) (between-bounds 1 10000 z) made
 

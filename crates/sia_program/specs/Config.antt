@@ -41,14 +41,14 @@ abbrev pub address_of : List ℕ → Option (List ℕ)
 address_of text = result_ok (decode_sized text 32)
 
 -- an output of value siafunds to an address; a new output's claims start at 0
-abbrev pub fund_of_entry : List ℕ → ℕ → FundOutput
-fund_of_entry address value = record { value = value; address = address; claim_start = 0 }
+abbrev pub fund_to : List ℕ → ℕ → FundOutput
+fund_to address value = record { value = value; address = address; claim_start = 0 }
 
 -- one table of `chain.siafund`: an address `to`, and a `value` from 1 to 10,000
 abbrev pub siafund_of : Data → Option FundOutput
 siafund_of d =
     option_and_then
-    (λ address. option_map (fund_of_entry address) (between 1 10000 (option_and_then as_integer (get (codes "value") d))))
+    (λ address. option_map (fund_to address) (between 1 10000 (option_and_then as_integer (get (codes "value") d))))
     (option_and_then address_of (option_and_then as_str (get (codes "to") d)))
 
 -- each of some tables, in order, if none of them is refused

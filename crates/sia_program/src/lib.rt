@@ -31,8 +31,8 @@
 //! # Stands on
 //!
 //! `sia_encoding` for the feed's bytes and for how answers are spoken of, `sia_edge` for sources and sinks, `sia_blake` for
-//! hashes, `sia_merkle` for the root of a file, `sia_range` for the proof of a range, `sia_types` for records, `sia_ids` and
-//! `sia_rules` for the identifiers and amounts that texts and configurations speak of, `sia_ledger` for the chain, and the kit's `toml` and `hex` for the configuration.
+//! hashes, `sia_merkle` for the root of a file, `sia_range` for the proof of a range, `sia_types` for records, `sia_ledger` for the
+//! chain, with `sia_ids` and `sia_rules`, whose definitions the chain's name, and the kit's `toml` and `hex` for the configuration.
 #![tactic(auto)]
 
 mod commands;

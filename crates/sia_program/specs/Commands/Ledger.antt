@@ -47,14 +47,14 @@ unfoldable pub reverted : Chain → Result Chain Refusal
 reverted chain = if height chain == 0 then Err refusal.NoBlock else Ok (shortened chain)
 
 -- what one record of a feed makes of a chain
-abbrev pub moved : Chain → FeedRecord → Result Chain Refusal
-moved chain (feed_record.Apply block) = applied chain block
-moved chain feed_record.Revert = reverted chain
+abbrev pub after_record : Chain → FeedRecord → Result Chain Refusal
+after_record chain (feed_record.Apply block) = applied chain block
+after_record chain feed_record.Revert = reverted chain
 
 -- what the records of a feed make of a chain in turn, up to the first that is refused
 abbrev pub run : Chain → List FeedRecord → Result Chain Refusal
 run chain [] = Ok chain
-run chain (first ∷ others) = moved chain first >>= (λ next. run next others)
+run chain (first ∷ others) = after_record chain first >>= (λ next. run next others)
 
 -- the chain that a configuration of at most 65,536 bytes begins
 unfoldable pub begin : List ℕ → Result Chain Stop

@@ -5,7 +5,7 @@ ghost use Rattle.sia_encoding.specs.Answer.{Answers};
 ghost use Rattle.sia_ledger.specs.Chain.{begun};
 ghost use Rattle.sia_ledger.specs.Refusal.{genesis_refusal};
 ghost use Rattle.sia_program.specs.Answer.{ReadToEnd};
-ghost use Rattle.sia_program.specs.Commands.Ledger.{applied, begin, finish, ledger_outcome, moved, reverted, run};
+ghost use Rattle.sia_program.specs.Commands.Ledger.{applied, begin, finish, ledger_outcome, after_record, reverted, run};
 ghost use Rattle.sia_program.specs.Commands.Ledger.{ledger_form as ledger_form_of, sums_text as sums_text_of};
 ghost use Rattle.sia_program.specs.Outcome.{given_both};
 ghost use Rattle.sia_program.specs.Told.{refusal_told, stop_told};
@@ -98,7 +98,7 @@ fn follow<L: StepBook>(
     record: &FeedRecord,
     steps: &mut Steps<L>,
 ) -> Result<(), Fault>
-    ensures { Answers (λ _. ledger.new) refusal_told result (moved ledger.old record.now) }
+    ensures { Answers (λ _. ledger.new) refusal_told result (after_record ledger.old record.now) }
 {
     match record {
         FeedRecord::Apply(block) => apply(alloc, ledger, block, steps),
