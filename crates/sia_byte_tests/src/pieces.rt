@@ -36,8 +36,8 @@ fn three_bytes_have_three_pieces(rt: HostRuntime) -> Result<(), Fail> {
 
 /// What two pieces of three bytes give back.
 fn joined(alloc: Global, one: (u64, [u8; 2]), other: (u64, [u8; 2])) -> Result<Blob, Fail>
-    requires { one.0 < other.0 }
-    requires { other.0 < 16 }
+    requires apart { one.0 < other.0 }
+    requires within { other.0 < 16 }
 {
     let (first, bytes) = one;
     let (second, more) = other;
@@ -56,8 +56,8 @@ fn joined(alloc: Global, one: (u64, [u8; 2]), other: (u64, [u8; 2])) -> Result<B
 
 #[test]
 fn any_two_of_them_give_the_bytes_back(rt: HostRuntime) -> Result<(), Fail> {
-    assert!(rt; joined(rt.alloc(), (1, [3, 3]), (2, [5, 3]))?.as_slice() == &[1, 2, 3]);
-    assert!(rt; joined(rt.alloc(), (0, [1, 3]), (2, [5, 3]))?.as_slice() == &[1, 2, 3]);
-    assert!(rt; joined(rt.alloc(), (0, [1, 3]), (1, [3, 3]))?.as_slice() == &[1, 2, 3]);
+    assert!(rt; joined(rt.alloc(), (1, [3, 3]), (2, [5, 3]))?.as_slice() == [1, 2, 3].as_slice());
+    assert!(rt; joined(rt.alloc(), (0, [1, 3]), (2, [5, 3]))?.as_slice() == [1, 2, 3].as_slice());
+    assert!(rt; joined(rt.alloc(), (0, [1, 3]), (1, [3, 3]))?.as_slice() == [1, 2, 3].as_slice());
     Ok(())
 }

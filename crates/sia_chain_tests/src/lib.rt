@@ -9,4 +9,6 @@ mod ledger;
 #[cfg(test)]
 mod rules;
 #[cfg(test)]
+mod sign;
+#[cfg(test)]
 mod types;
