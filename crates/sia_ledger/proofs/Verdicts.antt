@@ -11,7 +11,8 @@ use Rattle.sia_ledger.specs.declared.fact.Fact.{Fact}
 use Rattle.sia_ledger.specs.declared.fault.BlockFault.TheVariants as block_fault
 use Rattle.sia_rules.specs.Amounts.{subsidy}
 use Rattle.sia_ledger.specs.Facts.{block_facts}
-use Rattle.sia_ledger.specs.Refusal.{broken, bad_parent, height_end, wrong_payouts, payout_sum, first_repeated, same_id, verdict, fund_sum, wrong_funds, genesis_refusal}
+use Rattle.sia_encoding.specs.Firsts.{broken}
+use Rattle.sia_ledger.specs.Refusal.{bad_parent, height_end, wrong_payouts, payout_sum, first_repeated, same_id, verdict, fund_sum, wrong_funds, genesis_refusal}
 use Rattle.sia_ledger.proofs.Repeats.{option_or-none}
 
 broken-none : {F : Type 0} (test : Bool) (fault : F) → broken test fault ≡ None → test ≡ false
