@@ -9,7 +9,7 @@ use Rattle.sia_types.specs.declared.signature.Signature.{Signature}
 use Rattle.sia_types.specs.declared.transaction.Transaction.{Transaction}
 use Rattle.sia_types.specs.declared.sig_fault.SigFault.{SigFault}
 use Rattle.sia_types.specs.declared.sig_fault.SigFault.TheVariants as sig_fault
-use Rattle.sia_sign.specs.Needs.{Need, needs, need_for, count_for}
+use Rattle.sia_sign.specs.Needs.{Need, needs, need_of, count_for}
 use Rattle.sia_sign.specs.SignedText.{signed_hash}
 use Rattle.sia_sign.specs.Frivolous.{is_frivolous}
 
@@ -36,7 +36,7 @@ fault_for accepts height tx earlier i s (Some need) = fault_under accepts height
 
 -- the fault of the signature at an index, in a block at this height, where `accepts` judges key, hash and signature
 unfoldable pub signature_fault : (List ℕ → List ℕ → List ℕ → Bool) → ℕ → Transaction → ℕ → Signature → Option SigFault
-signature_fault accepts height tx i s = fault_for accepts height tx (take i tx.signatures) i s (need_for s.parent (needs tx))
+signature_fault accepts height tx i s = fault_for accepts height tx (take i tx.signatures) i s (need_of s.parent (needs tx))
 
 -- a need has fewer signatures than it requires
 abbrev pub lacks : List Signature → Need → Bool

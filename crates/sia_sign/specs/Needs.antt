@@ -30,8 +30,8 @@ abbrev pub needs : Transaction → List Need
 needs tx = map coin_need tx.coin_inputs ++ (map revision_need tx.revisions ++ map fund_need tx.fund_inputs)
 
 -- the first of the needs that has this parent
-abbrev pub need_for : List ℕ → List Need → Option Need
-need_for parent all = find (λ (need : Need). bytes_eq need.parent parent) all
+abbrev pub need_of : List ℕ → List Need → Option Need
+need_of parent all = find (λ (need : Need). bytes_eq need.parent parent) all
 
 -- how many of the signatures are for this parent
 abbrev pub count_for : List ℕ → List Signature → ℕ

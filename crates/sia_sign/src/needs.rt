@@ -1,7 +1,7 @@
 //! What of a transaction needs signatures.
 ghost use Rattle.std.specs.Prelude.{◌≡◌, ◌++◌, map, option_copied};
 ghost use Rattle.std.specs.Option.{option_map};
-ghost use Rattle.sia_sign.specs.Needs.{Need, needs, need_for, count_for, coin_need, revision_need, fund_need};
+ghost use Rattle.sia_sign.specs.Needs.{Need, needs, need_of, count_for, coin_need, revision_need, fund_need};
 
 use sia_types::{CoinInput, FundInput, List, Revision, Signature, Transaction, UnlockConditions};
 
@@ -57,7 +57,7 @@ impl Locked for FundInput {
 
 /// The conditions of the first of the transaction's needs that has this parent.
 pub fn conditions_for<'a>(tx: &'a Transaction, parent: &[u8; 32]) -> Option<&'a UnlockConditions>
-    ensures { option_copied result ≡ option_map (λ (need : Need). need.conditions) (need_for parent.now (needs tx.now)) }
+    ensures { option_copied result ≡ option_map (λ (need : Need). need.conditions) (need_of parent.now (needs tx.now)) }
 {
     match conditions_in(&tx.coin_inputs, parent) {
         Some(conditions) => Some(conditions),
@@ -67,7 +67,7 @@ pub fn conditions_for<'a>(tx: &'a Transaction, parent: &[u8; 32]) -> Option<&'a 
 
 // The same among the needs behind the siacoin inputs.
 fn conditions_behind<'a>(tx: &'a Transaction, parent: &[u8; 32]) -> Option<&'a UnlockConditions>
-    ensures { option_copied result ≡ option_map (λ (need : Need). need.conditions) (need_for parent.now (map revision_need tx.now.revisions ++ map fund_need tx.now.fund_inputs)) }
+    ensures { option_copied result ≡ option_map (λ (need : Need). need.conditions) (need_of parent.now (map revision_need tx.now.revisions ++ map fund_need tx.now.fund_inputs)) }
 {
     match conditions_in(&tx.revisions, parent) {
         Some(conditions) => Some(conditions),
@@ -77,14 +77,14 @@ fn conditions_behind<'a>(tx: &'a Transaction, parent: &[u8; 32]) -> Option<&'a U
 
 // The conditions of the first in the list that has this parent.
 fn conditions_in<'a, T: Locked>(all: &'a List<T>, parent: &[u8; 32]) -> Option<&'a UnlockConditions>
-    ensures { option_copied result ≡ option_map (λ (need : Need). need.conditions) (need_for parent.now (map T.need all.now)) }
+    ensures { option_copied result ≡ option_map (λ (need : Need). need.conditions) (need_of parent.now (map T.need all.now)) }
 {
     conditions_among(all.as_slice(), parent)
 }
 
 // The conditions of the first that has this parent.
 fn conditions_among<'a, T: Locked>(all: &'a [T], parent: &[u8; 32]) -> Option<&'a UnlockConditions>
-    ensures { option_copied result ≡ option_map (λ (need : Need). need.conditions) (need_for parent.now (map T.need all.now)) }
+    ensures { option_copied result ≡ option_map (λ (need : Need). need.conditions) (need_of parent.now (map T.need all.now)) }
 {
     for locked in all {
         if locked.parent() == parent {
