@@ -4,7 +4,9 @@
 //! to the address of 32 bytes 34. The hashes and seals are those of Python's hashlib over its bytes, written out by hand.
 use hex::FromHex;
 use sia_sign::{Seal, SealSigner, SigFault, Signer, check_signatures, sig_hash};
-use sia_types::{Blob, CoinInput, CoinOutput, Covered, List, PublicKey, Signature, Transaction, UnlockConditions};
+use sia_types::{
+    Blob, CoinInput, CoinOutput, Covered, List, PublicKey, Signature, Transaction, UnlockConditions,
+};
 use std::alloc::Global;
 use std::test::Fail;
 
@@ -32,18 +34,73 @@ enum Case {
 const CASES: [(Case, u64, Option<SigFault>, &str); 14] = [
     (Case::Signed, 0, None, "signed over the whole"),
     (Case::OutputAlone, 0, None, "signed over its output alone"),
-    (Case::OtherParent, 0, Some(SigFault::Frivolous { i: 0 }), "for no need"),
-    (Case::NoSuchKey, 0, Some(SigFault::Frivolous { i: 0 }), "no key has its index"),
-    (Case::SignedTwice, 0, Some(SigFault::Frivolous { i: 1 }), "a second signature by one key"),
-    (Case::OutputTwice, 0, Some(SigFault::Frivolous { i: 0 }), "an index that is named twice"),
-    (Case::OutputPastTheEnd, 0, Some(SigFault::Frivolous { i: 0 }), "an index past the end"),
-    (Case::WholeAndOutput, 0, Some(SigFault::Frivolous { i: 0 }), "the whole and an output"),
-    (Case::NoneRequired, 0, Some(SigFault::Frivolous { i: 0 }), "none is required"),
-    (Case::Locked, 4, Some(SigFault::Timelock { i: 0 }), "one block too early"),
+    (
+        Case::OtherParent,
+        0,
+        Some(SigFault::Frivolous { i: 0 }),
+        "for no need",
+    ),
+    (
+        Case::NoSuchKey,
+        0,
+        Some(SigFault::Frivolous { i: 0 }),
+        "no key has its index",
+    ),
+    (
+        Case::SignedTwice,
+        0,
+        Some(SigFault::Frivolous { i: 1 }),
+        "a second signature by one key",
+    ),
+    (
+        Case::OutputTwice,
+        0,
+        Some(SigFault::Frivolous { i: 0 }),
+        "an index that is named twice",
+    ),
+    (
+        Case::OutputPastTheEnd,
+        0,
+        Some(SigFault::Frivolous { i: 0 }),
+        "an index past the end",
+    ),
+    (
+        Case::WholeAndOutput,
+        0,
+        Some(SigFault::Frivolous { i: 0 }),
+        "the whole and an output",
+    ),
+    (
+        Case::NoneRequired,
+        0,
+        Some(SigFault::Frivolous { i: 0 }),
+        "none is required",
+    ),
+    (
+        Case::Locked,
+        4,
+        Some(SigFault::Timelock { i: 0 }),
+        "one block too early",
+    ),
     (Case::Locked, 5, None, "at its timelock"),
-    (Case::LastByteDiffers, 0, Some(SigFault::BadSig { i: 0 }), "the last byte differs"),
-    (Case::Unsigned, 0, Some(SigFault::MissingSig { i: 0 }), "no signature"),
-    (Case::TwoRequired, 0, Some(SigFault::MissingSig { i: 0 }), "one signature where two are required"),
+    (
+        Case::LastByteDiffers,
+        0,
+        Some(SigFault::BadSig { i: 0 }),
+        "the last byte differs",
+    ),
+    (
+        Case::Unsigned,
+        0,
+        Some(SigFault::MissingSig { i: 0 }),
+        "no signature",
+    ),
+    (
+        Case::TwoRequired,
+        0,
+        Some(SigFault::MissingSig { i: 0 }),
+        "one signature where two are required",
+    ),
 ];
 
 /// The case, what is signed, and the first half of its seal under the key of 32 bytes 1; the other half is zero.
@@ -96,7 +153,10 @@ fn covered(alloc: Global, case: Case) -> Result<Covered, Fail> {
         _ => {}
     }
     Ok(Covered {
-        whole: !matches!(case, Case::OutputAlone | Case::OutputTwice | Case::OutputPastTheEnd),
+        whole: !matches!(
+            case,
+            Case::OutputAlone | Case::OutputTwice | Case::OutputPastTheEnd
+        ),
         coin_inputs: List::new(alloc),
         coin_outputs,
         contracts: List::new(alloc),
@@ -113,8 +173,16 @@ fn covered(alloc: Global, case: Case) -> Result<Covered, Fail> {
 // The signature of the case, with these bytes.
 fn signature(alloc: Global, case: Case, signature: Blob) -> Result<Signature, Fail> {
     Ok(Signature {
-        parent: if matches!(case, Case::OtherParent) { [18; 32] } else { COIN },
-        key_index: if matches!(case, Case::NoSuchKey) { 1 } else { 0 },
+        parent: if matches!(case, Case::OtherParent) {
+            [18; 32]
+        } else {
+            COIN
+        },
+        key_index: if matches!(case, Case::NoSuchKey) {
+            1
+        } else {
+            0
+        },
         timelock: if matches!(case, Case::Locked) { 5 } else { 0 },
         covered: covered(alloc, case)?,
         signature,
@@ -154,7 +222,9 @@ fn unsigned(alloc: Global, case: Case) -> Result<Transaction, Fail> {
 fn signed(rt: &HostRuntime, case: Case) -> Result<(Transaction, [u8; 32]), Fail> {
     let alloc = rt.alloc();
     let mut draft = unsigned(alloc, case)?;
-    draft.signatures.push(signature(alloc, case, Blob::new(alloc))?)?;
+    draft
+        .signatures
+        .push(signature(alloc, case, Blob::new(alloc))?)?;
     assert!(rt; draft.signatures.len() == 1);
     let hash = sig_hash(alloc, &draft, 0)?;
     let mut seal = SealSigner::new([1; 32]).sign(alloc, &hash)?;

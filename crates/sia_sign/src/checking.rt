@@ -117,7 +117,11 @@ fn check_needs(tx: &Transaction) -> Result<(), SigFault>
     let revisions = tx.revisions.len() as u64;
     check_list(&tx.coin_inputs, 0, &tx.signatures)?;
     check_list(&tx.revisions, coins, &tx.signatures)?;
-    check_list(&tx.fund_inputs, coins.saturating_add(revisions), &tx.signatures)
+    check_list(
+        &tx.fund_inputs,
+        coins.saturating_add(revisions),
+        &tx.signatures,
+    )
 }
 
 // The first of these that isn't met; the first has this index.
