@@ -8,3 +8,4 @@ mod ReadingBack
 mod Repairing
 mod Tearing
 mod Walking
+mod Pieces

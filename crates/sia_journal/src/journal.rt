@@ -7,6 +7,7 @@ ghost use Rattle.sia_journal.specs.Journal.{Holds, HoldsListed, MidAppend, IsRea
 use crate::durable::store;
 use crate::fault::{JournalFault, done};
 use crate::opening::prepare;
+use crate::piece::{Piece, PieceDisk};
 use crate::record::RecordBuf;
 use sia_edge::{Disk, read_onto, read_whole};
 use sia_encoding::Blob;
@@ -23,7 +24,7 @@ pub const FIRST_PLACE: u64 = 16;
 /// moment leaves the records before, or those and the new one.
 #[derive(Drop)]
 pub struct Journal<D: Disk> {
-    disk: D,
+    disk: PieceDisk<D>,
     // where the last gate stands
     gate: u64,
     // the greatest length of the file, in bytes
@@ -37,7 +38,7 @@ impl<D: Disk> Journal<D> {
     /// on it: after `Memory` and `Damaged` it is as before. A damaged file stays as it is, whatever this answers.
     pub fn open(
         alloc: Global,
-        mut disk: D,
+        disk: D,
         header: &[u8; 16],
         limit: u64,
     ) -> Result<Journal<D>, (JournalFault, D)>
@@ -55,9 +56,13 @@ impl<D: Disk> Journal<D> {
         ensures damaged { IsTrue D.tells → IsDamaged header.now limit (D.standing disk).seen → Quiet (D.standing disk) (D.standing (disk_of result)) }
         ensures cause { IfErr result (λ failed. OpenCause D.tells header.now limit (D.standing disk) (D.standing failed.1) failed.0) }
     {
+        let Ok(piece) = Piece::new(alloc) else {
+            return Err((JournalFault::Memory, disk));
+        };
+        let mut disk = PieceDisk::new(disk, piece);
         match prepare(alloc, &mut disk, header, limit) {
             Ok(gate) => Ok(Journal { disk, gate, limit }),
-            Err(fault) => Err((fault, disk)),
+            Err(fault) => Err((fault, disk.into_disk())),
         }
     }
 
@@ -180,7 +185,7 @@ impl<D: Disk> Journal<D> {
         ensures { result ≡ self.disk }
     {
         let Journal { disk, .. } = self;
-        disk
+        disk.into_disk()
     }
 }
 

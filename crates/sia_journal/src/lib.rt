@@ -37,6 +37,7 @@ mod fault;
 mod journal;
 pub mod laws;
 mod opening;
+mod piece;
 mod record;
 mod scan;
 mod window;
