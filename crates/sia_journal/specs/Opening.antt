@@ -4,17 +4,8 @@ use Rattle.sia_encoding.specs.Spelling.{spelled_bytes}
 use Rattle.sia_edge.specs.Disk.{Standing, Faulted, images_of}
 use Rattle.sia_journal.specs.declared.fault.JournalFault.{JournalFault}
 use Rattle.sia_journal.specs.declared.fault.JournalFault.TheVariants as fault
-use Rattle.sia_journal.specs.declared.window.Window.{Window}
 use Rattle.sia_journal.specs.declared.scan.Last.{Last}
 use Rattle.sia_journal.specs.Listed.{HEADER, FRESH, IsFew, frames, place_after, split_payload}
-
--- a window lies within a file of this length
-abbrev pub Within : ℕ → Window → Type 0
-Within end window = window.base + length window.bytes ≤ end
-
--- a window holds what stands at its place in a file
-abbrev pub Shows : List ℕ → Window → Type 0
-Shows file window = window.bytes ≡ take (length window.bytes) (drop window.base file)
 
 -- Behind the open gate at a place stands a whole payload up to the next place, or none does.
 abbrev pub FrameEnds : List ℕ → ℕ → Option ℕ → Type 0
@@ -48,11 +39,11 @@ pub record IsFound (header file : List ℕ) (last : Last) : Type 0 where
   pub ends : IsLast file last
 
 -- why a walk along the gates answers a fault
-abbrev pub WalkCause : Bool → Window → Standing → Standing → JournalFault → Type 0
-WalkCause tells window old new fault.Memory = Unit {0}
-WalkCause tells window old new fault.Disk = Faulted old new
-WalkCause tells window old new (fault.Damaged place) = IsTrue tells → Shows old.seen window → BreaksAt old.seen place
-WalkCause tells window old new (fault.Full need limit) = ⊥
+abbrev pub WalkCause : Bool → Standing → Standing → JournalFault → Type 0
+WalkCause tells old new fault.Memory = ⊥
+WalkCause tells old new fault.Disk = Faulted old new
+WalkCause tells old new (fault.Damaged place) = IsTrue tells → BreaksAt old.seen place
+WalkCause tells old new (fault.Full need limit) = ⊥
 
 -- What may be left of a file while its end behind `front` is repaired, where a gate and other bytes stand: the gate torn, or
 -- the gate closed and any bytes behind it, no more than there were.

@@ -22,6 +22,8 @@ pub const FIRST_PLACE: u64 = 16;
 /// Before a record is written the gate byte at the file's end is closed. The record is written behind it with a closed gate
 /// of its own, and brought onto the disk; then the gate in front of it is opened by a write of one byte. So a crash at any
 /// moment leaves the records before, or those and the new one.
+///
+/// Records are read through a piece of 64 KiB, for which an opening takes the memory. So small ones take few reads of the disk.
 #[derive(Drop)]
 pub struct Journal<D: Disk> {
     disk: PieceDisk<D>,
@@ -60,7 +62,7 @@ impl<D: Disk> Journal<D> {
             return Err((JournalFault::Memory, disk));
         };
         let mut disk = PieceDisk::new(disk, piece);
-        match prepare(alloc, &mut disk, header, limit) {
+        match prepare(&mut disk, header, limit) {
             Ok(gate) => Ok(Journal { disk, gate, limit }),
             Err(fault) => Err((fault, disk.into_disk())),
         }

@@ -40,7 +40,6 @@ mod opening;
 mod piece;
 mod record;
 mod scan;
-mod window;
 
 pub use fault::JournalFault;
 pub use journal::{FIRST_PLACE, Journal};

@@ -10,7 +10,6 @@ use crate::fault::{JournalFault, done};
 use crate::journal::FIRST_PLACE;
 use crate::scan::{Last, find_last};
 use sia_edge::Disk;
-use std::alloc::Global;
 
 /// How long a file may be and hold nothing: a header and a gate.
 const FRESH_LEN: usize = 17;
@@ -58,7 +57,6 @@ fn repair<D: Disk>(disk: &mut D, last: Last) -> Result<(), JournalFault>
 
 /// Brings the disk into a state in which a record may be read or appended, and answers where the last gate stands.
 pub(crate) fn prepare<D: Disk>(
-    alloc: Global,
     disk: &mut D,
     header: &[u8; 16],
     limit: u64,
@@ -78,7 +76,7 @@ pub(crate) fn prepare<D: Disk>(
         make_fresh(disk, header)?;
         return Ok(FIRST_PLACE);
     }
-    let last = find_last(alloc, disk, header, limit)?;
+    let last = find_last(disk, header, limit)?;
     repair(disk, last)?;
     Ok(last.place)
 }

@@ -12,9 +12,9 @@ loop-place-preserved g c =
     let Ends : Option ℕ → Type 0 = λ frame. FrameEnds (g.D.Disk.standing c.array.new.disk).seen c.loop-place.place frame in
     let In : Option ℕ → Type 0 = λ frame. IfSome frame (λ next. (c.loop-place.place + 9 ≤ next) × (next ≤ c.args.end)) in
     let bounds = subst In c.in-Some.is c.in_ok-frame.ensures.within in
-    goes_further g.D.Disk.tells c.array.new.self c.loop-place.invariant c.requires.end c.loop-place-test.true c.in_ok-bytes.ensures.bytes c.if-gate-ne1.false
-    c.in_ok-bytes.ensures.shows c.array.ensures.quiet (λ told shown. subst Ends c.in-Some.is (c.in_ok-frame.ensures.frame told shown)) bounds.0 bounds.1
-    c.in_ok-frame.ensures.shows c.frame_end.ensures.quiet
+    goes_further g.D.Disk.tells c.loop-place.invariant c.requires.end c.loop-place-test.true c.in_ok-bytes.ensures.bytes c.if-gate-ne1.false
+    c.array.ensures.quiet (λ told. subst Ends c.in-Some.is (c.in_ok-frame.ensures.frame told)) bounds.0 bounds.1
+    c.frame_end.ensures.quiet
 
 pub returns-then-gate-ne1-clause-last : goal.returns-then-gate-ne1-clause-last
 returns-then-gate-ne1-clause-last g c =
@@ -23,8 +23,8 @@ returns-then-gate-ne1-clause-last g c =
 pub returns-in-None-clause-cause : goal.returns-in-None-clause-cause
 returns-in-None-clause-cause g c =
     let Ends : Option ℕ → Type 0 = λ frame. FrameEnds (g.D.Disk.standing c.array.new.disk).seen c.loop-place.place frame in
-    breaks_off g.D.Disk.tells c.array.new.self c.loop-place.invariant c.requires.end c.loop-place-test.true c.in_ok-bytes.ensures.bytes c.if-gate-ne1.false
-    c.in_ok-bytes.ensures.shows c.array.ensures.quiet (λ told shown. subst Ends c.in-None.is (c.in_ok-frame.ensures.frame told shown))
+    breaks_off g.D.Disk.tells c.loop-place.invariant c.requires.end c.loop-place-test.true c.in_ok-bytes.ensures.bytes c.if-gate-ne1.false
+    c.array.ensures.quiet (λ told. subst Ends c.in-None.is (c.in_ok-frame.ensures.frame told))
 
 pub returns-in-None-clause-quiet : goal.returns-in-None-clause-quiet
 returns-in-None-clause-quiet g c = quiet_on (quiet_on c.loop-place.invariant.quiet c.array.ensures.quiet) c.frame_end.ensures.quiet
