@@ -9,6 +9,4 @@ mod ledger;
 #[cfg(test)]
 mod rules;
 #[cfg(test)]
-mod sign;
-#[cfg(test)]
 mod types;
