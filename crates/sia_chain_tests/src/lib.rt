@@ -1,11 +1,9 @@
-//! Tests of records, identifiers, amounts and chains, a table for each theme. Each case has its expected values from outside
+//! Tests of records, identifiers and amounts, a table for each theme. Each case has its expected values from outside
 //! of this repository's code: from the rules by hand, or from a Python script over hashlib.
 #![tactic(auto)]
 
 #[cfg(test)]
 mod ids;
-#[cfg(test)]
-mod ledger;
 #[cfg(test)]
 mod rules;
 #[cfg(test)]

@@ -1,6 +1,6 @@
 //! Records worked out by hand from the rules of the encoding.
 use sia_encoding::{Blob, DecodeFault, Item, List};
-use sia_types::{Block, CoinOutput, DiffProof, UpdateProof};
+use sia_types::{DiffProof, UpdateProof};
 use std::test::Fail;
 
 #[test]
@@ -50,41 +50,4 @@ fn the_first_fault_of_a_proof_is_told(rt: HostRuntime) {
             "{name}"
         );
     }
-}
-
-#[test]
-fn a_block_ends_with_the_count_of_no_transactions(rt: HostRuntime) -> Result<(), Fail> {
-    let mut payouts = List::new(rt.alloc());
-    payouts.push(CoinOutput {
-        value: 256,
-        address: [5; 32],
-    })?;
-    let block = Block {
-        parent: [3; 32],
-        nonce: [1, 2, 3, 4, 5, 6, 7, 8],
-        timestamp: 258,
-        payouts,
-    };
-    let mut out = Blob::new(rt.alloc());
-    block.encode(&mut out)?;
-    let mut spelled = Blob::from_slice(rt.alloc(), &[3; 32])?;
-    spelled.extend(&[1, 2, 3, 4, 5, 6, 7, 8, 2, 1, 0, 0, 0, 0, 0, 0])?;
-    spelled.extend(&[1, 0, 0, 0, 0, 0, 0, 0, 2, 0, 0, 0, 0, 0, 0, 0, 1, 0])?;
-    spelled.extend(&[5; 32])?;
-    let counted = spelled.len();
-    assert_eq!(rt; counted, 98);
-    for (count, fault, name) in [
-        (0, None, "no transaction"),
-        (1, Some(DecodeFault::TooLong { at: 98 }), "a transaction"),
-    ] {
-        spelled.truncate(98);
-        spelled.extend(&[count, 0, 0, 0, 0, 0, 0, 0])?;
-        let read = Block::decode(rt.alloc(), spelled.as_slice(), 2_000_000);
-        assert_eq!(rt; read.err(), fault, "{name}");
-        let same = out.as_slice() == spelled.as_slice();
-        assert_eq!(rt; same, fault.is_none(), "{name}");
-    }
-    let cut = Block::decode(rt.alloc(), &out.as_slice()[..105], 2_000_000);
-    assert_eq!(rt; cut.err(), Some(DecodeFault::Short { at: 98 }));
-    Ok(())
 }
