@@ -1,0 +1,6 @@
+pub mod Frames
+pub mod Taking
+pub mod Labels
+pub mod LabelLaws
+pub mod Actions
+pub mod ActionLaws
