@@ -4,3 +4,5 @@ pub mod Labels
 pub mod LabelLaws
 pub mod Actions
 pub mod ActionLaws
+pub mod RequestBodies
+pub mod AnswerBodies
