@@ -6,3 +6,6 @@ pub mod Actions
 pub mod ActionLaws
 pub mod RequestBodies
 pub mod AnswerBodies
+pub mod Messages
+pub mod Requests
+pub mod Answers

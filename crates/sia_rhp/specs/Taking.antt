@@ -1,5 +1,5 @@
 -- What reading a frame takes of a link.
-use Rattle.std.specs.Prelude.{◌≡◌, ℕ, ◌+◌, ◌-◌, ◌≤◌, ◌++◌, List, length, drop, Option, Some, None, Result, Ok, Err}
+use Rattle.std.specs.Prelude.{◌≡◌, ℕ, ◌+◌, ◌-◌, ◌≤◌, ◌++◌, List, [], length, drop, Option, Some, None, Result, Ok, Err}
 use Rattle.sia_rhp.specs.declared.frames.FrameFault.{FrameFault}
 use Rattle.sia_rhp.specs.declared.frames.FrameFault.TheVariants as fault
 use Rattle.sia_rhp.specs.Frames.{Reader}
@@ -8,14 +8,17 @@ use Rattle.sia_rhp.specs.Frames.{Reader}
 abbrev pub LosesSome : List ℕ → Option (List ℕ) → Type 0
 LosesSome bytes left = (front : List ℕ) × (rest : List ℕ) × (bytes ≡ front ++ rest) × (left ≡ Some rest)
 
--- What was read is what stands in front, and exactly its bytes were taken. Where the link or memory failed, nothing is said of the
--- bytes. At a fault some first bytes were taken.
-abbrev pub Takes : {A : Type 0} → (A → ℕ) → Result (Option A) FrameFault → Result (Option A) FrameFault → List ℕ → Option (List ℕ) → Type 0
-Takes size (Ok None) reading bytes left = (reading ≡ Ok None) × (left ≡ Some bytes)
-Takes size (Ok (Some x)) reading bytes left = (reading ≡ Ok (Some x)) × (left ≡ Some (drop (size x) bytes))
-Takes size (Err fault.Link) reading bytes left = LosesSome bytes left
-Takes size (Err fault.Memory) reading bytes left = LosesSome bytes left
-Takes size (Err e) reading bytes left = (reading ≡ Err e) × LosesSome bytes left
+-- What was read is what stands in front, and exactly its bytes were taken. At a length above the limit that length alone was
+-- taken, at an end inside a frame all, and at too long a stream all that may be taken. Where the link or memory failed, nothing is
+-- said of the bytes.
+abbrev pub Takes : {A : Type 0} → (A → ℕ) → ℕ → Result (Option A) FrameFault → Result (Option A) FrameFault → List ℕ → Option (List ℕ) → Type 0
+Takes size room (Ok None) reading bytes left = (reading ≡ Ok None) × (left ≡ Some bytes)
+Takes size room (Ok (Some x)) reading bytes left = (reading ≡ Ok (Some x)) × (left ≡ Some (drop (size x) bytes))
+Takes size room (Err (fault.TooLong n)) reading bytes left = (reading ≡ Err (fault.TooLong n)) × (left ≡ Some (drop 8 bytes))
+Takes size room (Err fault.Short) reading bytes left = (reading ≡ Err fault.Short) × (left ≡ Some [])
+Takes size room (Err fault.Long) reading bytes left = (reading ≡ Err fault.Long) × (left ≡ Some (drop room bytes))
+Takes size room (Err fault.Link) reading bytes left = LosesSome bytes left
+Takes size room (Err fault.Memory) reading bytes left = LosesSome bytes left
 
 -- A reader may take fewer bytes by the frame that it gave. A fault is kept.
 abbrev pub Moves : Reader → Reader → Result (Option (List ℕ)) FrameFault → Type 0

@@ -15,8 +15,11 @@ pub enum Action {
     Swap(u64, u64),
     /// Other bytes in the sector at a place, from an offset on.
     Update {
+        /// The place of the sector, from 0.
         place: u64,
+        /// Where the bytes begin in it.
         offset: u64,
+        /// The bytes.
         bytes: Blob,
     },
 }

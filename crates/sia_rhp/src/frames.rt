@@ -25,7 +25,10 @@ const FRONT: usize = 4096;
 #[derive(Clone, Copy, Debug, PartialEq, Eq)]
 pub enum FrameFault {
     /// A length is above the limit.
-    TooLong { length: u64 },
+    TooLong {
+        /// That length.
+        length: u64,
+    },
     /// The link ended inside a frame.
     Short,
     /// As many bytes were taken as may be, and they hold no further whole body and no length above the limit.
@@ -65,9 +68,10 @@ impl FrameReader {
     }
 
     /// The next body, or none at an end between two frames. After a fault each further call answers that fault again, and reads
-    /// nothing. A fault of `Link` or `Memory` says nothing of the bytes.
+    /// nothing. Nothing is read behind the length at `TooLong`, nor behind the greatest count of bytes at `Long`. A fault of
+    /// `Link` or `Memory` says nothing of the bytes.
     pub fn next<L: Link>(&mut self, alloc: Global, link: &mut L) -> Result<Option<Blob>, FrameFault>
-        ensures bytes { self.old.fault ≡ None → IfSome (L.left link.old) (λ bytes. Takes (λ body. 8 + size body) result (frame_at self.old.limit self.old.room bytes) bytes (L.left link.new)) }
+        ensures bytes { self.old.fault ≡ None → IfSome (L.left link.old) (λ bytes. Takes (λ body. 8 + size body) self.old.room result (frame_at self.old.limit self.old.room bytes) bytes (L.left link.new)) }
         ensures moves { self.old.fault ≡ None → Moves self.old self.new result }
         ensures sticky { IfSome self.old.fault (λ fault. (result ≡ Err fault) × (self.new ≡ self.old) × (link.new ≡ link.old)) }
         ensures apart { L.taken link.new ≡ L.taken link.old }
@@ -98,7 +102,7 @@ fn take_frame<L: Link>(
     limit: u64,
     room: u64,
 ) -> Result<Option<Blob>, FrameFault>
-    ensures bytes { IfSome (L.left link.old) (λ bytes. Takes (λ body. 8 + size body) result (frame_at limit room bytes) bytes (L.left link.new)) }
+    ensures bytes { IfSome (L.left link.old) (λ bytes. Takes (λ body. 8 + size body) room result (frame_at limit room bytes) bytes (L.left link.new)) }
     ensures within { IfOk result (λ found. IfSome found (λ body. 8 + size body ≤ room)) }
     ensures apart { L.taken link.new ≡ L.taken link.old }
     ensures later { L.faults link.old ≤ L.faults link.new }
@@ -118,7 +122,7 @@ fn take_frame<L: Link>(
 
 // The length at the front of what the link has left.
 fn take_length<L: Link>(link: &mut L, room: u64) -> Result<Option<u64>, FrameFault>
-    ensures bytes { IfSome (L.left link.old) (λ bytes. Takes (λ length. 8) result (length_at room bytes) bytes (L.left link.new)) }
+    ensures bytes { IfSome (L.left link.old) (λ bytes. Takes (λ length. 8) room result (length_at room bytes) bytes (L.left link.new)) }
     ensures within { IfOk result (λ found. IfSome found (λ length. 8 ≤ room)) }
     ensures apart { L.taken link.new ≡ L.taken link.old }
     ensures later { L.faults link.old ≤ L.faults link.new }
@@ -139,7 +143,7 @@ fn take_length<L: Link>(link: &mut L, room: u64) -> Result<Option<u64>, FrameFau
 // The last bytes that may be taken, which are too few for a length.
 fn take_last<L: Link>(link: &mut L, last: &mut [u8]) -> Result<Option<u64>, FrameFault>
     requires { size last.old < 8 }
-    ensures bytes { IfSome (L.left link.old) (λ bytes. Takes (λ length. 8) result (length_at (size last.old) bytes) bytes (L.left link.new)) }
+    ensures bytes { IfSome (L.left link.old) (λ bytes. Takes (λ length. 8) (size last.old) result (length_at (size last.old) bytes) bytes (L.left link.new)) }
     ensures none { IfOk result (λ found. found ≡ None) }
     ensures apart { L.taken link.new ≡ L.taken link.old }
     ensures later { L.faults link.old ≤ L.faults link.new }
@@ -166,7 +170,7 @@ fn take_body<L: Link>(
     length: u64,
     room: u64,
 ) -> Result<Option<Blob>, FrameFault>
-    ensures bytes { IfSome (L.left link.old) (λ bytes. Takes (λ body. size body) result (body_at length room bytes) bytes (L.left link.new)) }
+    ensures bytes { IfSome (L.left link.old) (λ bytes. Takes (λ body. size body) room result (body_at length room bytes) bytes (L.left link.new)) }
     ensures within { IfOk result (λ found. IfSome found (λ body. size body ≤ room)) }
     ensures apart { L.taken link.new ≡ L.taken link.old }
     ensures later { L.faults link.old ≤ L.faults link.new }
