@@ -1,6 +1,6 @@
 -- How a revision pays for a call (RHP2; siad's modules/negotiate.go; Sia whitepaper). The valid outputs are the renter's and
 -- the host's; the missed ones are the renter's, the host's and the void's, whose coins nobody can spend.
-use Rattle.std.specs.Prelude.{◌≡◌, ℕ, ◌+◌, ◌-◌, ◌*◌, ◌^◌, ◌<◌, ◌≤◌, min, Bool, List, [], ◌∷◌, length, map, sum, sum_by, nat_lt, ◌==◌, ◌||◌, ◌&&◌, not, Option, Some, None, slice_index, if◌then◌else◌}
+use Rattle.std.specs.Prelude.{◌≡◌, ℕ, ◌+◌, ◌-◌, ◌^◌, ◌<◌, min, Bool, List, [], ◌∷◌, length, map, sum, nat_lt, ◌==◌, ◌||◌, ◌&&◌, not, Option, Some, None, slice_index, if◌then◌else◌}
 use Rattle.sia_encoding.specs.Firsts.{broken, ◌or_else◌}
 use Rattle.sia_types.specs.declared.coins.CoinOutput.{CoinOutput}
 use Rattle.sia_types.specs.declared.file_contracts.Revision.{Revision}

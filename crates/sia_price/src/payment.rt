@@ -1,5 +1,5 @@
 //! Whether a revision's values pay for a call (RHP2; siad's modules/negotiate.go).
-ghost use Rattle.std.specs.Prelude.{◌≡◌, ℕ, ◌+◌, ◌*◌, ◌^◌, ◌<◌, length, sum, slice_index, nat_lt, ◌==◌, ◌||◌, not};
+ghost use Rattle.std.specs.Prelude.{◌≡◌, ℕ, ◌+◌, ◌*◌, ◌^◌, ◌<◌, length, sum, slice_index, nat_lt, ◌==◌, ◌&&◌, not};
 ghost use Rattle.sia_encoding.specs.Answer.{Answers, itself, unless};
 ghost use Rattle.sia_price.specs.Payments.{HasBothParties, cuts_host, fall, falls_alike, falls_short, has_same_counts, has_same_sums, least_kept, payment_fault, robs_void, values_of};
 

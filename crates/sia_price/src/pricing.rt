@@ -50,7 +50,11 @@ fn bandwidth(call: &Priced, prices: &Prices, sector: u64) -> u128
             update_bytes,
         } => prices
             .base
-            .saturating_add(prices.upload.saturating_mul(wide_sector * u128::from(appends)))
+            .saturating_add(
+                prices
+                    .upload
+                    .saturating_mul(wide_sector * u128::from(appends)),
+            )
             .saturating_add(prices.access.saturating_mul(2 * u128::from(swaps)))
             .saturating_add(prices.access.saturating_mul(u128::from(updates)))
             .saturating_add(prices.upload.saturating_mul(u128::from(update_bytes))),

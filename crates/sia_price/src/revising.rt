@@ -2,8 +2,8 @@
 ghost use Rattle.std.specs.Prelude.{◌≡◌, ◌+◌, ◌-◌, ◌^◌, ◌<◌, ◌≤◌, length, IfOk};
 ghost use Rattle.sia_price.specs.Payments.{HasBothParties, HasBoundedSums, least_kept, paying_missed, paying_valid, revised, revision_with, with_values, values_of};
 
-use crate::priced::Cost;
 use crate::payment::{missed_values, valid_values};
+use crate::priced::Cost;
 use sia_types::{CoinOutput, Item, List, Revision};
 use std::alloc::{AllocError, Global};
 
