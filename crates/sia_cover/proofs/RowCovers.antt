@@ -6,7 +6,6 @@ use Rattle.sia_merkle.specs.Roots.{tree_root}
 use Rattle.sia_merkle.specs.Segments.{cover, cover_within, is_covered, others, segment_root, segment_roots}
 use Rattle.sia_merkle.proofs.Windows.{root_at}
 use Rattle.sia_cover.proofs.Covers.{cover_both, cover_clear, cover_lower, cover_past, covered_within, roots_both}
-use Rattle.sia_cover.proofs.Covering.{left_aligned, right_aligned}
 use Rattle.sia_cover.proofs.Growth.{cover_grown, one_root}
 
 -- How a row of hashes from a base on stands to the whole list.
@@ -46,13 +45,6 @@ row_both chosen count base low height lower next hashes row roots half new is up
     ∙ ap (λ front. front ++ segment_roots hashes (cover_within chosen (length hashes) lower (low + 2 ^ lower))) first
     ∙ roots_both hashes roots (cover_within chosen (length hashes) lower low) (cover_within chosen (length hashes) lower (low + 2 ^ lower)) (cover_within chosen (length hashes) height low)
     (cover_both chosen (length hashes) height lower low up (ap (λ n. is_covered chosen n height low) is.all ∙ e))
-
--- where the halves stand
-pub first_half : (low height lower index : ℕ) → height ≡ suc lower → low ≡ index * 2 ^ height → low ≡ index * 2 * 2 ^ lower
-first_half low height lower index up aligned = left_aligned low lower index (aligned ∙ ap (λ h. index * 2 ^ h) up)
-
-pub second_half : (low height lower index next : ℕ) → height ≡ suc lower → low ≡ index * 2 ^ height → next ≡ low + 2 ^ lower → next ≡ (index * 2 + 1) * 2 ^ lower
-second_half low height lower index next up aligned there = there ∙ right_aligned low lower index (aligned ∙ ap (λ h. index * 2 ^ h) up)
 
 -- a whole row
 pub whole_full : (chosen : ℕ → Bool) (count base level index : ℕ) (hashes row roots : List (List ℕ)) (root : List ℕ) → IsRow count base hashes row → base ≡ index * 2 ^ level

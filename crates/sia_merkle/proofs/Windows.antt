@@ -45,3 +45,20 @@ pub root_at : (hashes : List (List ℕ)) (height low index : ℕ) → low ≡ in
 root_at hashes height low index aligned =
     let back : low / 2 ^ height * 2 ^ height ≡ low = ap (λ n. n / 2 ^ height * 2 ^ height) aligned ∙ ap (λ n. n * 2 ^ height) (mul_div index (2 ^ height) (pow_pos height)) ∙ sym aligned in
     ap (λ n. tree_root height (take (2 ^ height) (drop n hashes))) back
+
+-- where the halves of an aligned part stand
+pub left_aligned : (low height index : ℕ) → low ≡ index * 2 ^ suc height → low ≡ index * 2 * 2 ^ height
+left_aligned low height index aligned =
+    let turned : index * (2 ^ height * 2) ≡ index * 2 * 2 ^ height = omega arith in
+    aligned ∙ ap (λ n. index * n) (pow-suc 2 height) ∙ turned
+
+pub right_aligned : (low height index : ℕ) → low ≡ index * 2 ^ suc height → low + 2 ^ height ≡ (index * 2 + 1) * 2 ^ height
+right_aligned low height index aligned =
+    let part : low ≡ index * 2 * 2 ^ height = left_aligned low height index aligned in
+    omega arith
+
+pub first_half : (low height lower index : ℕ) → height ≡ suc lower → low ≡ index * 2 ^ height → low ≡ index * 2 * 2 ^ lower
+first_half low height lower index up aligned = left_aligned low lower index (aligned ∙ ap (λ h. index * 2 ^ h) up)
+
+pub second_half : (low height lower index next : ℕ) → height ≡ suc lower → low ≡ index * 2 ^ height → next ≡ low + 2 ^ lower → next ≡ (index * 2 + 1) * 2 ^ lower
+second_half low height lower index next up aligned there = there ∙ right_aligned low lower index (aligned ∙ ap (λ h. index * 2 ^ h) up)

@@ -1,7 +1,8 @@
 use Rattle.std.proofs.Common.{◌≡◌, ◌+◌, ◌-◌, ◌*◌, ◌^◌, suc, length, sym, ◌∙◌, ap, arith}
 use Rattle.sia_cover.proofs.Covers.{on_ok}
 use Rattle.sia_cover.proofs.Joins.{mixed_above}
-use Rattle.sia_cover.proofs.RowCovers.{first_half, row_both, row_clear, row_full, row_low, second_half}
+use Rattle.sia_merkle.proofs.Windows.{first_half, second_half}
+use Rattle.sia_cover.proofs.RowCovers.{row_both, row_clear, row_full, row_low}
 use Rattle.sia_cover.proofs.growing.+append_row.Goals as goal
 
 pub returns-then-is_full : goal.returns-then-is_full
