@@ -16,8 +16,8 @@
 //!   [`StorageProof`], [`UnlockConditions`], [`PublicKey`], [`Signature`], [`Covered`], [`UpdateProof`], [`DiffProof`],
 //!   [`Prices`] and [`Settings`] are items: reading and spelling are exactly their codec's, with the first fault and its
 //!   offset, and its law holds.
-//! - A [`Block`] has no transactions yet: its spelling ends with their count, 0, and reading one that has some is refused at
-//!   their count.
+//! - [`Terms::copy`] is the same terms. [`Terms`] and [`Coin`] are what a ledger tells of a contract and of an output: no
+//!   bytes are stated for them.
 //! - [`Transaction::encode_unsigned`] appends the spelling of all fields but the signatures; that and the signatures are the
 //!   transaction's spelling ([`laws::signatures_come_last`]).
 //!
@@ -27,6 +27,7 @@
 #![tactic(auto)]
 
 mod block;
+mod coin;
 mod coins;
 mod conditions;
 mod diff_proof;
@@ -36,10 +37,12 @@ pub mod laws;
 mod settings;
 mod sig_fault;
 mod signature;
+mod terms;
 mod transaction;
 mod update_proof;
 
 pub use block::Block;
+pub use coin::Coin;
 pub use coins::{CoinInput, CoinOutput};
 pub use conditions::{PublicKey, UnlockConditions};
 pub use diff_proof::DiffProof;
@@ -49,5 +52,6 @@ pub use settings::{Prices, Settings};
 pub use sia_encoding::{Blob, DecodeFault, Item, List};
 pub use sig_fault::SigFault;
 pub use signature::{Covered, Signature};
+pub use terms::Terms;
 pub use transaction::Transaction;
 pub use update_proof::UpdateProof;
