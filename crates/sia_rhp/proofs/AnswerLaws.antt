@@ -1,5 +1,5 @@
 -- The law of answers.
-use Rattle.std.proofs.Common.{◌≡◌, ℕ, Bool, true, false, List, Option, Some, None, refl, sym, ap}
+use Rattle.std.proofs.Common.{◌≡◌, ℕ, Bool, true, false, List, Some, refl, sym, ap}
 use Rattle.sia_encoding.specs.Codec.{Lawful}
 use Rattle.sia_encoding.specs.CodecLaws.{codec}
 use Rattle.sia_encoding.specs.ItemLaws.{byte_string_law, list_law, number_law, truth_law}

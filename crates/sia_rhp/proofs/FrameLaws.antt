@@ -1,12 +1,11 @@
 -- The frames of bytes.
-use Rattle.std.proofs.Common.{◌⊎◌, inl, inr, ◌≡◌, ◌++◌, ℕ, zero, suc, ◌+◌, ◌-◌, ◌≤◌, ◌<◌, ◌^◌, ◌==◌, Bool, true, false, nat_lt, min, if◌then◌else◌, List, [], ◌∷◌, length, take, drop, Option, None, Some, Result, Ok, Err, arith, refl, sym, ap, ◌∙◌, append_assoc, length-append}
+use Rattle.std.proofs.Common.{inl, inr, ◌≡◌, ◌++◌, ℕ, zero, suc, ◌+◌, ◌-◌, ◌≤◌, ◌<◌, ◌^◌, nat_lt, min, List, ◌∷◌, length, take, drop, Option, None, Some, Result, Ok, Err, arith, refl, ap, ◌∙◌, append_assoc, length-append}
 use Rattle.std.proofs.lemmas.Bool.{le-ltb, ltb-false}
 use Rattle.std.proofs.lemmas.List.{take_at, drop_at, length-take, length-drop}
 use Rattle.std.proofs.lemmas.Nat.{from_le_bytes-to_le_bytes_8}
 use Rattle.std.specs.Int.{w64, from_le_bytes, to_le_bytes}
 use Rattle.sia_encoding.specs.Spelling.{spelled_u64, spelled_bytes}
 use Rattle.sia_rhp.specs.declared.frames.FrameFault.{FrameFault}
-use Rattle.sia_rhp.specs.declared.frames.FrameFault.TheVariants as fault
 use Rattle.sia_rhp.specs.Frames.{frame, length_at, body_at, frame_at, behind_length, bodies_from, frames_in, frames, Stream}
 use Rattle.sia_rhp.proofs.FrameLemmas.{chosen, chosen_second, length_has}
 

@@ -1,5 +1,5 @@
 -- The law of requests.
-use Rattle.std.proofs.Common.{◌≡◌, ℕ, List, Option, Some, None, refl}
+use Rattle.std.proofs.Common.{◌≡◌, ℕ, List, Some, refl}
 use Rattle.sia_encoding.specs.Codec.{Lawful}
 use Rattle.sia_encoding.specs.ItemLaws.{byte_string_law, list_law}
 use Rattle.sia_encoding.specs.RecordLaws.{choice_law, variant_law, nothing_law}

@@ -18,4 +18,4 @@ pub returns : goal.returns
 returns c =
     let text = c.args.label.now in
     found (label_of text) c.unwrap-label.result c.args.bytes.now c.args.limit c.decode_answer.result (sym c.of.ensures ∙ c.unwrap-label.ensures)
-        (is_message (answer_law c.unwrap-label.result) c.args.bytes.now c.args.limit c.decode_answer.result (All-from_get_or (λ byte. byte < 256) c.args.bytes.now 0 (λ i within. omega (arith, c.type_inv.bytes i))) c.decode_answer.ensures)
+    (is_message (answer_law c.unwrap-label.result) c.args.bytes.now c.args.limit c.decode_answer.result (All-from_get_or (λ byte. byte < 256) c.args.bytes.now 0 (λ i within. omega (arith, c.type_inv.bytes i))) c.decode_answer.ensures)

@@ -1,0 +1,11 @@
+//! Tests of links, frames and messages: messages that are spelled by hand, frames that reads cut at each place, and real connections.
+#![tactic(auto)]
+
+#[cfg(test)]
+mod cuts;
+#[cfg(test)]
+mod frames;
+#[cfg(test)]
+mod messages;
+#[cfg(test)]
+mod tcp;
