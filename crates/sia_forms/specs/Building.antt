@@ -60,8 +60,8 @@ planned_contract plan s outset renter_key payout = record {
 }
 
 -- a fee, and none of 0
-abbrev pub fees_of : ℕ → List ℕ
-fees_of fee = if fee == 0 then [] else fee ∷ []
+abbrev pub fee_entries : ℕ → List ℕ
+fee_entries fee = if fee == 0 then [] else fee ∷ []
 
 -- the transaction of a plan, with what the renter's coins add
 unfoldable pub planned_transaction : FormPlan → Settings → Outset → List ℕ → ℕ → Additions → Transaction
@@ -73,7 +73,7 @@ planned_transaction plan s outset renter_key payout added = record {
   proofs = [];
   fund_inputs = [];
   fund_outputs = [];
-  fees = fees_of plan.fee;
+  fees = fee_entries plan.fee;
   notes = [];
   signatures = [];
 }
@@ -103,10 +103,10 @@ pub record IsTooLittle (plan : FormPlan) (host_value : ℕ) (coins : List Coin) 
   pub less : have < need
 
 -- why nothing is built
-abbrev pub IsRefused : FormPlan → ℕ → List Coin → FormFault → Type 0
-IsRefused plan host_value coins (form_fault.NoFunds need have) = IsTooMuch plan host_value coins need have ⊎ IsTooLittle plan host_value coins need have
-IsRefused plan host_value coins (form_fault.BadContract point) = ⊥
-IsRefused plan host_value coins form_fault.Memory = Unit {0}
+abbrev pub IsNotBuilt : FormPlan → ℕ → List Coin → FormFault → Type 0
+IsNotBuilt plan host_value coins (form_fault.NoFunds need have) = IsTooMuch plan host_value coins need have ⊎ IsTooLittle plan host_value coins need have
+IsNotBuilt plan host_value coins (form_fault.BadContract point) = ⊥
+IsNotBuilt plan host_value coins form_fault.Memory = Unit {0}
 
 -- the whole transaction: what the host adds stands behind what the renter has, and the renter's signatures before the host's
 unfoldable pub finished : Transaction → Additions → List Signature → List Signature → Transaction

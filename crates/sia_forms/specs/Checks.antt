@@ -75,8 +75,8 @@ host_value_of (renter ∷ []) = 0
 host_value_of (renter ∷ host ∷ more) = host.value
 
 -- the host's valid value is at least this, and what is above it is a collateral that the host gives
-abbrev pub keeps_limits : Settings → ℕ → ℕ → Bool
-keeps_limits s least host_value = nat_le least host_value && nat_le (host_value - least) s.max_collateral
+abbrev pub pays_host : Settings → ℕ → ℕ → Bool
+pays_host s least host_value = nat_le least host_value && nat_le (host_value - least) s.max_collateral
 
 -- what a host asks of a contract: the bytes that it begins with, its unlock hash, the host's least valid value, and how much of
 -- that value goes to the void where it isn't proved
@@ -107,7 +107,7 @@ terms_fault s begins risk c =
 -- the collateral that a host gives, or point 4 where its value isn't within its limits
 unfoldable pub collateral_within : Settings → ℕ → ℕ → Result ℕ FormFault
 collateral_within s least host_value =
-    unless (broken (not (keeps_limits s least host_value)) (form_fault.BadContract 4)) >>= (λ _. Ok (host_value - least))
+    unless (broken (not (pays_host s least host_value)) (form_fault.BadContract 4)) >>= (λ _. Ok (host_value - least))
 
 -- the collateral of a contract, or the first of the points 1 to 4 that fails
 unfoldable pub contract_answer : Settings → Asked → FileContract → Result ℕ FormFault

@@ -2,7 +2,7 @@
 ghost use Rattle.std.specs.Prelude.{◌≡◌, ℕ, ◌+◌, ◌-◌, ◌^◌, ◌<◌, ◌≤◌, max, None, IfOk, IfErr, IfSome};
 ghost use Rattle.sia_rules.specs.Amounts.{capped};
 ghost use Rattle.sia_forms.specs.declared.fault.FormFault.TheVariants as form_fault;
-ghost use Rattle.sia_forms.specs.Building.{IsBuilt, IsFunded, IsRefused, fees_of as fees_so, form_outset, planned_contract as planned_contract_so, renew_outset};
+ghost use Rattle.sia_forms.specs.Building.{IsBuilt, IsFunded, IsNotBuilt, fee_entries as fee_entries_of, form_outset, planned_contract as planned_contract_so, renew_outset};
 ghost use Rattle.sia_forms.specs.Choices.{worth_of};
 
 use crate::fault::FormFault;
@@ -29,7 +29,7 @@ pub fn build_form(
     renter_key: &[u8; 32],
 ) -> Result<Transaction, FormFault>
     ensures built { IfOk result (IsBuilt plan.now settings.now (form_outset plan.now settings.now) coins.now renter_key.now) }
-    ensures refused { IfErr result (IsRefused plan.now (form_outset plan.now settings.now).host_value coins.now) }
+    ensures refused { IfErr result (IsNotBuilt plan.now (form_outset plan.now settings.now).host_value coins.now) }
 {
     let Some(host_value) = settings.prices.contract_price.checked_add(plan.collateral) else {
         return Err(too_much(coins));
@@ -58,7 +58,7 @@ pub fn build_renew(
     newest: &Revision,
 ) -> Result<Transaction, FormFault>
     ensures built { IfOk result (IsBuilt plan.now settings.now (renew_outset plan.now settings.now newest.now) coins.now renter_key.now) }
-    ensures refused { IfErr result (IsRefused plan.now (renew_outset plan.now settings.now newest.now).host_value coins.now) }
+    ensures refused { IfErr result (IsNotBuilt plan.now (renew_outset plan.now settings.now newest.now).host_value coins.now) }
 {
     let Some(least) = least_renewed(settings, plan.end, newest) else {
         return Err(too_much(coins));
@@ -99,7 +99,7 @@ fn build(
     requires collateral { plan.now.collateral ≤ outset.host_value }
     requires risk { outset.risk ≤ outset.host_value }
     ensures built { IfOk result (IsBuilt plan.now settings.now outset coins.now renter_key.now) }
-    ensures refused { IfErr result (IsRefused plan.now outset.host_value coins.now) }
+    ensures refused { IfErr result (IsNotBuilt plan.now outset.host_value coins.now) }
 {
     let Some(bill) = bill_of(plan, outset.host_value) else {
         return Err(too_much(coins));
@@ -116,7 +116,7 @@ fn build(
         proofs: List::new(alloc),
         fund_inputs: List::new(alloc),
         fund_outputs: List::new(alloc),
-        fees: fees_of(alloc, plan.fee)?,
+        fees: fee_entries(alloc, plan.fee)?,
         notes: List::new(alloc),
         signatures: List::new(alloc),
     })
@@ -180,8 +180,8 @@ fn planned_contract(
 }
 
 // The fee, and none of 0.
-fn fees_of(alloc: Global, fee: u128) -> Result<List<u128>, AllocError>
-    ensures { IfOk result (λ fees. fees ≡ fees_so fee) }
+fn fee_entries(alloc: Global, fee: u128) -> Result<List<u128>, AllocError>
+    ensures { IfOk result (λ fees. fees ≡ fee_entries_of fee) }
 {
     let mut fees = List::new(alloc);
     if fee > 0 {

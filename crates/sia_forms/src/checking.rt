@@ -1,5 +1,6 @@
 //! What a host asks of the transaction that forms or renews a contract.
-ghost use Rattle.std.specs.Prelude.{◌≡◌, ◌<◌, ◌^◌, option_copied, result_ok, IfOk};
+ghost use Rattle.std.specs.Prelude.{◌≡◌, ◌<◌, ◌^◌, option_copied, IfOk};
+ghost use Rattle.std.specs.Result.{result_ok};
 ghost use Rattle.sia_encoding.specs.Answer.{Answers, unless};
 ghost use Rattle.sia_types.specs.FileContracts.{revision};
 ghost use Rattle.sia_forms.specs.Checks.{begins_with as begins_so, collateral_within as collateral_so, form_answer, form_told, has_no_other_part as has_none, host_value_of as host_value_so, is_cleared as is_cleared_so, is_spelled_as as is_spelled_so, keeps_window as keeps_so, one_contract, pays_parties as pays_so, renew_answer, terms_fault};
