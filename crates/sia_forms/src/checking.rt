@@ -4,6 +4,7 @@ ghost use Rattle.std.specs.Result.{result_ok};
 ghost use Rattle.sia_encoding.specs.Answer.{Answers, unless};
 ghost use Rattle.sia_types.specs.FileContracts.{revision};
 ghost use Rattle.sia_forms.specs.Checks.{begins_with as begins_so, collateral_within as collateral_so, form_answer, form_told, has_no_other_part as has_none, host_value_of as host_value_so, is_cleared as is_cleared_so, is_spelled_as as is_spelled_so, keeps_window as keeps_so, one_contract, pays_parties as pays_so, renew_answer, terms_fault};
+ghost use Rattle.sia_forms.specs.Renewing.{least_renewed as least_renewed_so};
 
 use crate::fault::FormFault;
 use crate::parties::{ZERO, both_address};
@@ -66,10 +67,7 @@ pub fn check_renew(
     let begins = begins_with(contract, newest.size, &newest.root, &newest.address);
     let risk = risk_of(settings, contract.end, newest, host_value);
     check_terms(settings, begins, risk, contract)?;
-    let Some(least) = least_renewed(settings, contract.end, newest) else {
-        return Err(FormFault::BadContract { point: 4 });
-    };
-    collateral_within(settings, least, host_value)
+    renewed_collateral(settings, contract.end, newest, host_value)
 }
 
 // The one contract of a transaction whose other parts are fit.
@@ -113,6 +111,22 @@ fn collateral_within(settings: &Settings, least: u128, host_value: u128) -> Resu
         return Err(FormFault::BadContract { point: 4 });
     }
     Ok(host_value - least)
+}
+
+// The collateral above the host's least value in a contract that ends at a height and renews another, or point 4.
+#[tactic(auto, unfolding(crate::specs::Checks::collateral_within))]
+fn renewed_collateral(
+    settings: &Settings,
+    end: u64,
+    newest: &Revision,
+    host_value: u128,
+) -> Result<u128, FormFault>
+    ensures { Answers (λ collateral. collateral) form_told result (collateral_so settings.now (least_renewed_so settings.now end newest.now) host_value) }
+{
+    match least_renewed(settings, end, newest) {
+        Some(least) => collateral_within(settings, least, host_value),
+        None => Err(FormFault::BadContract { point: 4 }),
+    }
 }
 
 // Whether a transaction has nothing but siacoins, fees, contracts and revisions, and isn't signed yet.

@@ -1,5 +1,5 @@
 //! What a renewal takes over of the contract that it renews.
-ghost use Rattle.std.specs.Prelude.{◌≡◌, ◌+◌, ◌*◌, ◌^◌, ◌<◌, SomeIff, IfOk};
+ghost use Rattle.std.specs.Prelude.{◌≡◌, ◌+◌, ◌*◌, ◌^◌, ◌<◌, ◌≤◌, SomeIff, IfOk};
 ghost use Rattle.sia_forms.specs.Renewing.{clearing as clearing_of, kept_longer as kept_longer_of, least_renewed as least_renewed_of, risk_of as risk_of_value};
 
 use crate::parties::ZERO;
@@ -41,7 +41,8 @@ pub(crate) fn least_renewed(settings: &Settings, end: u64, newest: &Revision) ->
 /// What of the host's value goes to the void where a contract that ends at a height isn't proved.
 #[tactic(auto, unfolding(crate::specs::Renewing::risk_of))]
 pub(crate) fn risk_of(settings: &Settings, end: u64, newest: &Revision, host_value: u128) -> u128
-    ensures { result ≡ risk_of_value settings.now end newest.now host_value }
+    ensures exact { result ≡ risk_of_value settings.now end newest.now host_value }
+    ensures low { result ≤ host_value }
 {
     let kept = kept_longer(end, newest);
     let price = settings.prices.storage.saturating_mul(kept);
