@@ -38,9 +38,8 @@ has_no_other_part tx =
 
 -- its one revision clears the newest one
 abbrev pub is_cleared : Revision → List Revision → Bool
-is_cleared newest [] = false
 is_cleared newest (only ∷ []) = is_spelled_as revision only (clearing newest)
-is_cleared newest (first ∷ second ∷ more) = false
+is_cleared newest revisions = false
 
 -- the tests of its contract
 
@@ -49,23 +48,18 @@ abbrev pub begins_with : ℕ → List ℕ → List ℕ → FileContract → Bool
 begins_with size root address c =
     (c.size == size) && bytes_eq c.root root && (c.number == 0) && bytes_eq c.address address
 
--- it pays the renter and the host where it is proved, and the renter, the host and the void where it isn't; the host and the
--- void at their addresses, and the renter at one
-abbrev pub pays_parties : Settings → List CoinOutput → List CoinOutput → Bool
-pays_parties s (renter ∷ host ∷ []) (missed_renter ∷ missed_host ∷ void ∷ []) =
-    bytes_eq renter.address missed_renter.address
+-- it pays the renter and the host where it is proved, and the renter, the host and the void where it isn't: the renter at one
+-- address and the others at theirs, and where it isn't proved so much less to the host, which the void has
+abbrev pub pays_parties : Settings → ℕ → List CoinOutput → List CoinOutput → Bool
+pays_parties s risk (renter ∷ host ∷ []) (missed_renter ∷ missed_host ∷ void ∷ []) =
+    bytes_eq missed_renter.address renter.address
     && bytes_eq host.address s.address
     && bytes_eq missed_host.address s.address
     && bytes_eq void.address zero_hash
-pays_parties s valid missed = false
-
--- where it isn't proved the renter has the same, and so much goes from the host to the void
-abbrev pub risks : (ℕ → ℕ) → List CoinOutput → List CoinOutput → Bool
-risks risk (renter ∷ host ∷ []) (missed_renter ∷ missed_host ∷ void ∷ []) =
-    (renter.value == missed_renter.value)
-    && (missed_host.value == host.value - risk host.value)
-    && (void.value == risk host.value)
-risks risk valid missed = false
+    && (missed_renter.value == renter.value)
+    && (missed_host.value == host.value - risk)
+    && (void.value == risk)
+pays_parties s risk valid missed = false
 
 -- its window begins late enough, is long enough, and ends early enough for the host
 abbrev pub keeps_window : Settings → FileContract → Bool
@@ -81,45 +75,59 @@ host_value_of (renter ∷ []) = 0
 host_value_of (renter ∷ host ∷ more) = host.value
 
 -- the host's valid value is at least this, and what is above it is a collateral that the host gives
-abbrev pub keeps_limits : Settings → ℕ → FileContract → Bool
-keeps_limits s least c =
-    nat_le least (host_value_of c.valid) && nat_le (host_value_of c.valid - least) s.max_collateral
+abbrev pub pays_host : Settings → ℕ → ℕ → Bool
+pays_host s least host_value = nat_le least host_value && nat_le (host_value - least) s.max_collateral
+
+-- what a host asks of a contract: the bytes that it begins with, its unlock hash, the host's least valid value, and how much of
+-- that value goes to the void where it isn't proved
+pub record Asked : Type 0 where
+  pub size : ℕ
+  pub root : List ℕ
+  pub address : List ℕ
+  pub least : ℕ
+  pub risk : ℕ
+
+-- of a formation's contract: it begins with nothing, and nothing of the host's value is at risk
+abbrev pub asked_to_form : Settings → List ℕ → Asked
+asked_to_form s address = record { size = 0; root = zero_hash; address = address; least = s.prices.contract_price; risk = 0 }
+
+-- of a renewal's contract: it begins with what the old one stores
+abbrev pub asked_to_renew : Settings → Revision → FileContract → Asked
+asked_to_renew s newest c = record { size = newest.size; root = newest.root; address = newest.address; least = least_renewed s c.end newest; risk = risk_of s c.end newest (host_value_of c.valid) }
 
 -- the points, in order
 
--- The fault of a formation's contract. Where nothing is risked, valid and missed values are the same.
-unfoldable pub formed_fault : Settings → List ℕ → FileContract → Option FormFault
-formed_fault s address c =
-    broken (not (begins_with 0 zero_hash address c)) (form_fault.BadContract 1)
-    or_else broken (not (pays_parties s c.valid c.missed && risks (λ _. 0) c.valid c.missed)) (form_fault.BadContract 2)
+-- the first of the points 1 to 3 that fails, where `begins` says whether point 1 holds
+unfoldable pub terms_fault : Settings → Bool → ℕ → FileContract → Option FormFault
+terms_fault s begins risk c =
+    broken (not begins) (form_fault.BadContract 1)
+    or_else broken (not (pays_parties s risk c.valid c.missed)) (form_fault.BadContract 2)
     or_else broken (not (keeps_window s c)) (form_fault.BadContract 3)
-    or_else broken (not (keeps_limits s s.prices.contract_price c)) (form_fault.BadContract 4)
 
--- the fault of a renewal's contract: it begins with what the old one stores
-unfoldable pub renewed_fault : Settings → Revision → FileContract → Option FormFault
-renewed_fault s newest c =
-    broken (not (begins_with newest.size newest.root newest.address c)) (form_fault.BadContract 1)
-    or_else broken (not (pays_parties s c.valid c.missed && risks (risk_of s c.end newest) c.valid c.missed)) (form_fault.BadContract 2)
-    or_else broken (not (keeps_window s c)) (form_fault.BadContract 3)
-    or_else broken (not (keeps_limits s (least_renewed s c.end newest) c)) (form_fault.BadContract 4)
+-- the collateral that a host gives, or point 4 where its value isn't within its limits
+unfoldable pub collateral_within : Settings → ℕ → ℕ → Result ℕ FormFault
+collateral_within s least host_value =
+    unless (broken (not (pays_host s least host_value)) (form_fault.BadContract 4)) >>= (λ _. Ok (host_value - least))
 
--- the one contract of a transaction whose other parts are fit
-unfoldable pub one_contract : Bool → List FileContract → Result FileContract FormFault
-one_contract false contracts = Err (form_fault.BadContract 0)
-one_contract true [] = Err (form_fault.BadContract 0)
+-- the collateral of a contract, or the first of the points 1 to 4 that fails
+unfoldable pub contract_answer : Settings → Asked → FileContract → Result ℕ FormFault
+contract_answer s asked c =
+    unless (terms_fault s (begins_with asked.size asked.root asked.address c) asked.risk c)
+    >>= (λ _. collateral_within s asked.least (host_value_of c.valid))
+
+-- the one contract of a transaction whose other parts are fit, or point 0
+abbrev pub one_contract : Bool → List FileContract → Result FileContract FormFault
 one_contract true (c ∷ []) = Ok c
-one_contract true (first ∷ second ∷ more) = Err (form_fault.BadContract 0)
+one_contract fit contracts = Err (form_fault.BadContract 0)
 
 -- what a host answers to a formation: its collateral, or the first point that fails
 unfoldable pub form_answer : Transaction → List ℕ → Settings → Result ℕ FormFault
 form_answer tx renter_key s =
     one_contract ((length tx.revisions == 0) && has_no_other_part tx) tx.contracts
-    >>= (λ c. unless (formed_fault s (both_address renter_key s.host_key) c)
-    >>= (λ _. Ok (host_value_of c.valid - s.prices.contract_price)))
+    >>= (λ c. contract_answer s (asked_to_form s (both_address renter_key s.host_key)) c)
 
 -- what a host answers to a renewal
 unfoldable pub renew_answer : Transaction → Revision → Settings → Result ℕ FormFault
 renew_answer tx newest s =
     one_contract (is_cleared newest tx.revisions && has_no_other_part tx) tx.contracts
-    >>= (λ c. unless (renewed_fault s newest c)
-    >>= (λ _. Ok (host_value_of c.valid - least_renewed s c.end newest)))
+    >>= (λ c. contract_answer s (asked_to_renew s newest c) c)

@@ -9,7 +9,7 @@ use Rattle.sia_types.specs.declared.file_contracts.Revision.{Revision}
 use Rattle.sia_price.specs.declared.priced.Cost.{Cost}
 use Rattle.sia_price.specs.declared.payment.PayFault.TheVariants as pay_fault
 use Rattle.sia_price.specs.Costs.{due_of}
-use Rattle.sia_price.specs.Payments.{HasBothParties, can_pay, least_kept, payment_fault, revised, revision_with, values_of}
+use Rattle.sia_price.specs.Payments.{HasBothParties, can_pay, least_kept, payment_fault, paying_revision, revision_with, values_of}
 
 -- four tests that pass
 none_of_four : {F : Type 0} (a b c d : Bool) (e f g h : F) → a ≡ false → b ≡ false → c ≡ false → d ≡ false → (broken a e or_else broken b f or_else broken c g or_else broken d h) ≡ None
@@ -69,8 +69,8 @@ if_some_then true x P holds = holds refl
 if_some_then false x P holds = tt
 
 -- what pays exactly is accepted
-pub accepted : (old : Revision) (number size : ℕ) (root : List ℕ) (cost : Cost) → HasBothParties old → cost.bandwidth < 2 ^ 128 → IfSome (revised old number size root cost) (λ new. payment_fault old (values_of new.valid) (values_of new.missed) cost ≡ None)
-unfolding revised revision_with payment_fault
+pub accepted : (old : Revision) (number size : ℕ) (root : List ℕ) (cost : Cost) → HasBothParties old → cost.bandwidth < 2 ^ 128 → IfSome (paying_revision old number size root cost) (λ new. payment_fault old (values_of new.valid) (values_of new.missed) cost ≡ None)
+unfolding paying_revision revision_with payment_fault
 accepted old number size root cost both bounded =
     let v = two_are old.valid both.valid in
     let m = three_are old.missed both.missed in

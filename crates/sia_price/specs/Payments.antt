@@ -17,13 +17,15 @@ value_of output = output.value
 abbrev pub values_of : List CoinOutput → List ℕ
 values_of outputs = map value_of outputs
 
--- the places of the outputs
+-- the place of the renter's output
 abbrev pub renter : ℕ
 renter = 0
 
+-- the place of the host's output
 abbrev pub host : ℕ
 host = 1
 
+-- the place of the void's missed output
 abbrev pub void : ℕ
 void = 2
 
@@ -110,8 +112,8 @@ can_pay old cost =
     && not (nat_lt (slice_index (values_of old.missed) renter) (due_of cost))
 
 -- the revision that pays exactly for a call, or none where the renter doesn't have what is due
-unfoldable pub revised : Revision → ℕ → ℕ → List ℕ → Cost → Option Revision
-revised old number size root cost =
+unfoldable pub paying_revision : Revision → ℕ → ℕ → List ℕ → Cost → Option Revision
+paying_revision old number size root cost =
     if can_pay old cost
     then Some (revision_with old number size root (paying_valid (values_of old.valid) cost) (paying_missed (values_of old.missed) cost))
     else None

@@ -25,7 +25,7 @@ pub enum PayFault {
 ///
 /// # Errors
 /// Exactly the first of these: [`PayFault::Unbalanced`] at another count of values, and at another sum of the valid or the
-/// missed ones; [`PayFault::Low`] where the renter's valid value doesn't fall by what is due; [`PayFault::Unbalanced`] where its
+/// missed ones; [`PayFault::Low`] where the renter's valid value doesn't fall by at least what is due; [`PayFault::Unbalanced`] where its
 /// missed value doesn't fall by the same, where the host's is below its old one with the bandwidth part, less its collateral as
 /// far as they go, or where the void's falls.
 #[tactic(auto, unfolding(crate::specs::Payments::payment_fault))]

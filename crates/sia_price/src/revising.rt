@@ -1,6 +1,6 @@
 //! Revisions that pay exactly for a call.
 ghost use Rattle.std.specs.Prelude.{◌≡◌, ◌+◌, ◌-◌, ◌^◌, ◌<◌, ◌≤◌, length, IfOk};
-ghost use Rattle.sia_price.specs.Payments.{HasBothParties, HasBoundedSums, least_kept, paying_missed, paying_valid, revised, revision_with, with_values, values_of};
+ghost use Rattle.sia_price.specs.Payments.{HasBothParties, HasBoundedSums, least_kept, paying_missed, paying_valid, paying_revision, revision_with, with_values, values_of};
 
 use crate::payment::{missed_values, valid_values};
 use crate::priced::Cost;
@@ -10,7 +10,7 @@ use std::alloc::{AllocError, Global};
 /// The revision that pays exactly for a call: what is due goes from the renter's outputs to the host's valid one; of the missed
 /// ones the host keeps its value with the bandwidth part, less its collateral as far as they go, and the void takes the rest.
 /// `None` exactly where the renter's valid or missed value is below what is due. The one error is want of memory.
-#[tactic(auto, unfolding(crate::specs::Payments::revised))]
+#[tactic(auto, unfolding(crate::specs::Payments::paying_revision))]
 pub fn revise(
     alloc: Global,
     old: &Revision,
@@ -21,7 +21,7 @@ pub fn revise(
 ) -> Result<Option<Revision>, AllocError>
     requires parties { HasBothParties old.now }
     requires sums { HasBoundedSums old.now }
-    ensures { IfOk result (λ revision. revision ≡ revised old.now number size root.now cost.now) }
+    ensures { IfOk result (λ revision. revision ≡ paying_revision old.now number size root.now cost.now) }
 {
     let due = cost.due();
     let valid = valid_values(old);
