@@ -32,13 +32,14 @@ prove_form _ = None
 abbrev pub prove_files : FilePlaces
 prove_files = record { config = None; input = Some 1 }
 
--- What is found of a file: its root, the roots of the largest subtrees that cover all leaves but those from start to end, from
--- left to right, and how many bytes it has.
+-- what is found of a file: its root, the hashes of a proof, and how many bytes it has
 pub record Found : Type 0 where
   pub root : List ℕ
   pub hashes : List (List ℕ)
   pub size : ℕ
 
+-- What is found of bytes: their root, the roots of the largest subtrees that cover all leaves but those from start to end, from
+-- left to right, and how many bytes there are.
 abbrev pub found_of : ℕ → ℕ → List ℕ → Found
 found_of start end bytes = record {
   root = root_of (leaves_of bytes);
