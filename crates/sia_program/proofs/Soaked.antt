@@ -45,7 +45,7 @@ soaked_over (Some before) None new pushed buffer count so_far filled over = absu
 soaked_over (Some before) (Some now) new pushed buffer count so_far filled over =
     too_long before (omega (arith, ap length so_far, length-append pushed now, filled.count_is))
 
-rest_all : (now buffer : List ℕ) (count : ℕ) → count ≡ min (length now) (length buffer) → count < length buffer → length now ≤ count
+pub rest_all : (now buffer : List ℕ) (count : ℕ) → count ≡ min (length now) (length buffer) → count < length buffer → length now ≤ count
 rest_all now buffer count is short = omega arith
 
 found : (file : List ℕ) → length file ≤ 2 ^ 30 → root_found file ≡ Ok (root_of (leaves_of file), length file)

@@ -2,3 +2,4 @@
 pub mod Ledger
 pub mod Prove
 pub mod Root
+pub mod Show

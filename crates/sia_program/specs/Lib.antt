@@ -2,6 +2,7 @@ pub mod Answer
 pub mod Commands
 pub mod Config
 pub mod Feed
+pub mod Fields
 pub mod Form
 pub mod Inputs
 pub mod Lines

@@ -36,6 +36,7 @@ refusal_text refusal.FeedForm = codes "feed form"
 refusal_text (refusal.Block tip_height rule) = codes "block " ++ (decimal (tip_height + 1) ++ (codes " " ++ block_fault_text rule))
 refusal_text refusal.NoBlock = codes "feed NoBlock"
 refusal_text refusal.Range = codes "range"
+refusal_text (refusal.Input at) = codes "input at " ++ decimal at
 
 -- the line on standard error where the words have no form
 abbrev pub usage_line : List ℕ

@@ -8,6 +8,7 @@ use Rattle.sia_program.specs.Streams.{Sources}
 use Rattle.sia_program.specs.Commands.Ledger.{ledger_outcome}
 use Rattle.sia_program.specs.Commands.Prove.{prove_outcome}
 use Rattle.sia_program.specs.Commands.Root.{root_outcome}
+use Rattle.sia_program.specs.Commands.Show.{show_block_outcome, show_transaction_outcome}
 
 -- what two byte strings give, where both are told
 abbrev pub given_both : (List ℕ → List ℕ → Result (List ℕ) Stop) → Option (List ℕ) → Option (List ℕ) → Option (Result (List ℕ) Stop)
@@ -18,6 +19,8 @@ abbrev pub outcome_of : Form → Sources → Option (Result (List ℕ) Stop)
 outcome_of form.Ledger s = given_both ledger_outcome s.config.bytes s.input.bytes
 outcome_of form.Root s = option_map root_outcome s.input.bytes
 outcome_of (form.Prove start end) s = option_map (prove_outcome start end) s.input.bytes
+outcome_of form.ShowTransaction s = option_map show_transaction_outcome s.input.bytes
+outcome_of form.ShowBlock s = option_map show_block_outcome s.input.bytes
 
 -- a fact of what a form gives, where that is told
 abbrev pub OfOutcome : Form → Sources → (Result (List ℕ) Stop → Type 0) → Type 0

@@ -2,3 +2,4 @@
 pub mod ledger;
 pub mod prove;
 pub mod root;
+pub mod show;

@@ -5,6 +5,7 @@ ghost use Rattle.sia_program.specs.Form.{form_of, files_of};
 use crate::commands::ledger::{LEDGER_FILES, ledger_form};
 use crate::commands::prove::{PROVE_FILES, prove_form};
 use crate::commands::root::{ROOT_FILES, root_form};
+use crate::commands::show::{SHOW_FILES, show_form};
 use sia_encoding::Blob;
 
 /// A command and what its words name.
@@ -21,6 +22,10 @@ pub enum Form {
         /// The leaf behind the last one of the range.
         end: u64,
     },
+    /// `show transaction FILE`
+    ShowTransaction,
+    /// `show block FILE`
+    ShowBlock,
 }
 
 /// Which words of a form name files, by their places behind the program's name: the command's own word has place 0.
@@ -41,6 +46,8 @@ impl Form {
             Form::Ledger => LEDGER_FILES,
             Form::Root => ROOT_FILES,
             Form::Prove { start: _, end: _ } => PROVE_FILES,
+            Form::ShowTransaction => SHOW_FILES,
+            Form::ShowBlock => SHOW_FILES,
         }
     }
 }
@@ -52,4 +59,5 @@ pub fn read_form(words: &[Blob]) -> Option<Form>
     ledger_form(words)
         .or(root_form(words))
         .or(prove_form(words))
+        .or(show_form(words))
 }

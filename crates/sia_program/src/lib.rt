@@ -23,7 +23,8 @@
 //! - Status 0 of [`run_plain`] means that each file that the words name was read to its end. Status 3 has its cause in a fault
 //!   of such a file or of standard output, and comes from no other. A source that the words don't name isn't touched.
 //! - The texts are exact: the sums of a chain ([`sums_text`]), the root of a file with its leaves and bytes ([`root_text`]), the
-//!   hashes that prove a range of its leaves ([`prove_text`]), and the line of each refusal ([`refused_line`]).
+//!   hashes that prove a range of its leaves ([`prove_text`]), the fields of a transaction or a block
+//!   ([`transaction_lines`], [`block_lines`]), and the line of each refusal ([`refused_line`]).
 //! - A configuration is read to the chain's parameters or to its first refusal ([`config::read_config`]); an accepted one
 //!   begins a chain that nothing but want of memory refuses. A feed is read to its records or refused ([`read_feed`]).
 //! - A refusal of a block holds a rule, and never want of memory ([`BrokenRule`]).
@@ -37,7 +38,9 @@
 
 mod commands;
 pub mod config;
+mod entries;
 mod feed;
+mod fields;
 mod form;
 mod input;
 mod lines;
@@ -51,6 +54,7 @@ pub use commands::ledger::sums_text;
 pub use commands::prove::prove_text;
 pub use commands::root::root_text;
 pub use feed::{FeedRecord, read_feed};
+pub use fields::{block_lines, transaction_lines};
 pub use form::{FilePlaces, Form, read_form};
 pub use plain::run_plain;
 pub use rule::BrokenRule;

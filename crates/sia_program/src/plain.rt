@@ -12,6 +12,7 @@ ghost use Rattle.sia_program.specs.Told.{stop_told};
 use crate::commands::ledger::text_of_ledger;
 use crate::commands::prove::text_of_prove;
 use crate::commands::root::text_of_root;
+use crate::commands::show::{text_of_block, text_of_transaction};
 use crate::form::{Form, read_form};
 use crate::stop::Stop;
 use crate::telling::{tell, write_line};
@@ -38,6 +39,8 @@ fn text_of<S: Source>(
         Form::Ledger => text_of_ledger(alloc, config, input),
         Form::Root => text_of_root(alloc, input),
         Form::Prove { start, end } => text_of_prove(alloc, start, end, input),
+        Form::ShowTransaction => text_of_transaction(alloc, input),
+        Form::ShowBlock => text_of_block(alloc, input),
     }
 }
 
@@ -80,6 +83,9 @@ fn print<S: Source, K: Sink>(
 /// - `prove FILE A B`: the same, and A and B are decimal numbers below 2^64 without sign or leading zero. It writes the
 ///   file's Merkle root, the count of its leaves, and the hashes that prove the leaves from A to B, without B, to `out`. A
 ///   range that isn't A < B ≤ the count of leaves is refused.
+/// - `show transaction FILE` and `show block FILE`: `input` gives the bytes of FILE, at most 2,000,000. It writes the fields of
+///   the transaction or block that the bytes spell to `out`, a line for each entry. Bytes that spell none, or a rest behind it,
+///   are refused at the place of their first fault.
 ///
 /// Nothing is written to `out` before the whole input was accepted.
 ///

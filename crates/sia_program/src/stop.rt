@@ -26,6 +26,11 @@ pub enum Refusal {
     NoBlock,
     /// The range to prove has no leaf, or ends past the last one.
     Range,
+    /// The input's bytes are no record.
+    Input {
+        /// The offset of their first fault.
+        at: u64,
+    },
 }
 
 /// Why bytes that were read give no answer.

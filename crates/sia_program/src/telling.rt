@@ -61,6 +61,7 @@ fn refusal_text(alloc: Global, refusal: &Refusal) -> Result<String, AllocError>
         }
         Refusal::NoBlock => String::from_str(alloc, "feed NoBlock"),
         Refusal::Range => String::from_str(alloc, "range"),
+        Refusal::Input { at } => format!(in alloc; "input at {at}"),
     }
 }
 

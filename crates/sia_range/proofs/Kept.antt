@@ -1,5 +1,5 @@
 -- What a prover of a range keeps of the bytes that came.
-use Rattle.std.proofs.Common.{◌≡◌, ℕ, ◌+◌, ◌*◌, ◌^◌, ◌<◌, ◌≤◌, List, [], ◌∷◌, ◌++◌, length, map, drop, get_or, refl, sym, ◌∙◌, ap, ap₂, arith, length-append, append-nil}
+use Rattle.std.proofs.Common.{◌≡◌, ℕ, ◌+◌, ◌*◌, ◌^◌, ◌<◌, List, [], ◌∷◌, ◌++◌, length, map, drop, get_or, refl, sym, ◌∙◌, ap, arith, length-append, append-nil}
 use Rattle.std.proofs.lemmas.List.{drop_at, get_or_append_left, map-append}
 use Rattle.sia_merkle.specs.Levels.{levels_up, pairs}
 use Rattle.sia_merkle.specs.Roots.{leaf_count, leaf_digest, leaves_of, node_root_of, root_of}
@@ -8,7 +8,7 @@ use Rattle.sia_merkle.proofs.Cuts.{length-leaf_hashes}
 use Rattle.sia_merkle.proofs.Raises.{node_root_of-up, one_up, up-append}
 use Rattle.sia_cover.proofs.SameCovers.{AgreeAt, roots_same}
 use Rattle.sia_cover.proofs.Soundness.{no_elements}
-use Rattle.sia_range.specs.Proving.{IsKept}
+use Rattle.sia_range.specs.Proving.{KeepsProof}
 use Rattle.sia_range.specs.Ranges.{roots_outside}
 use Rattle.sia_range.proofs.ByteLeaves.{joined}
 
@@ -16,7 +16,7 @@ abbrev pub leaf_hashes : List ℕ → List (List ℕ)
 leaf_hashes bytes = map leaf_digest (leaves_of bytes)
 
 -- of no bytes nothing
-pub kept_none : (start end : ℕ) → IsKept 0 start end [] [] []
+pub kept_none : (start end : ℕ) → KeepsProof 0 start end [] [] []
 unfolding levels_up pairs leaves_of cover cover_within
 kept_none start end = record { counted = refl; whole = refl; short = omega arith; pieces_are = refl; outer_is = refl }
 
@@ -58,8 +58,8 @@ level_joined count bytes more pieces whole are =
     ∙ ap (levels_up 10) (sym (hashes_joined bytes more count whole))
 
 -- a piece more
-pub kept_more : (count start end : ℕ) (pieces outer new : List (List ℕ)) (bytes piece root : List ℕ) → IsKept count start end pieces outer bytes → length piece ≡ 65536 → length bytes + 65536 < 2 ^ 64
-    → root ≡ root_of (leaves_of piece) → IsGrown start end count (leaf_hashes piece) outer new → IsKept (count + 1) start end (pieces ++ root ∷ []) new (bytes ++ piece)
+pub kept_more : (count start end : ℕ) (pieces outer new : List (List ℕ)) (bytes piece root : List ℕ) → KeepsProof count start end pieces outer bytes → length piece ≡ 65536 → length bytes + 65536 < 2 ^ 64
+    → root ≡ root_of (leaves_of piece) → IsGrown start end count (leaf_hashes piece) outer new → KeepsProof (count + 1) start end (pieces ++ root ∷ []) new (bytes ++ piece)
 kept_more count start end pieces outer new bytes piece root kept size room made grown =
     let leaves : length (leaf_hashes piece) ≡ 1024 = length-leaf_hashes piece ∙ ap leaf_count size in
     let all : leaf_count (length (bytes ++ piece)) ≡ (count + 1) * 1024 = omega (arith, length-append bytes piece, kept.whole, size) in
@@ -73,7 +73,7 @@ kept_more count start end pieces outer new bytes piece root kept size room made 
     }
 
 -- the root over all, with bytes behind the pieces
-pub kept_root : (count start end : ℕ) (pieces outer : List (List ℕ)) (bytes last root : List ℕ) → IsKept count start end pieces outer bytes
+pub kept_root : (count start end : ℕ) (pieces outer : List (List ℕ)) (bytes last root : List ℕ) → KeepsProof count start end pieces outer bytes
     → root ≡ node_root_of (pieces ++ levels_up 10 (leaf_hashes last)) → root ≡ root_of (leaves_of (bytes ++ last))
 kept_root count start end pieces outer bytes last root kept made =
     made ∙ ap node_root_of (level_joined count bytes last pieces kept.whole kept.pieces_are) ∙ node_root_of-up 10 (leaf_hashes (bytes ++ last))

@@ -12,7 +12,7 @@ pub record Proving : Type 0 where
 
 -- What a prover keeps of so many pieces: their roots, and the roots of the cover of all other places in the tree over
 -- their leaves. No public clause speaks of it.
-pub record IsKept (count start end : ℕ) (pieces outer : List (List ℕ)) (bytes : List ℕ) : Type 0 where
+pub record KeepsProof (count start end : ℕ) (pieces outer : List (List ℕ)) (bytes : List ℕ) : Type 0 where
   pub counted : length pieces ≡ count
   pub whole : length bytes ≡ 65536 * count
   pub short : length bytes < 2 ^ 64

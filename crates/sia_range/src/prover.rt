@@ -4,7 +4,7 @@ ghost use Rattle.std.specs.Prelude.{◌≡◌, ◌+◌, ◌<◌, ◌^◌, ◌++�
 ghost use Rattle.sia_merkle.specs.Levels.{levels_up};
 ghost use Rattle.sia_merkle.specs.Pieces.{noted_bytes};
 ghost use Rattle.sia_merkle.specs.Roots.{leaf_count, leaf_digest, leaves_of, node_root_of, root_of};
-ghost use Rattle.sia_range.specs.Proving.{IsKept, Proving};
+ghost use Rattle.sia_range.specs.Proving.{KeepsProof, Proving};
 ghost use Rattle.sia_range.specs.Ranges.{roots_outside};
 
 use crate::between::Between;
@@ -48,7 +48,7 @@ impl Model for RangeProver {
 
     ghost view = { λ p. record { start = p.places.start; end = p.places.end; bytes = noted_bytes p.noted } };
 
-    ghost invariant = { λ p. IsKept p.count p.places.start p.places.end p.pieces p.outer (noted_bytes p.noted) };
+    ghost invariant = { λ p. KeepsProof p.count p.places.start p.places.end p.pieces p.outer (noted_bytes p.noted) };
 }
 
 impl RangeProver {

@@ -6,6 +6,7 @@ use Rattle.hex.specs.Hex.{encode_lower}
 use Rattle.sia_encoding.specs.Answer.{◌>>=◌}
 use Rattle.sia_merkle.specs.Roots.{leaf_count, leaf_digest, leaves_of, root_of}
 use Rattle.sia_merkle.specs.Segments.{cover, others, places_between, segment_roots}
+use Rattle.sia_range.specs.declared.prover.RangeProof.{RangeProof}
 use Rattle.sia_program.specs.declared.form.FilePlaces.{FilePlaces}
 use Rattle.sia_program.specs.declared.form.Form.{Form}
 use Rattle.sia_program.specs.declared.form.Form.TheVariants as form
@@ -31,13 +32,34 @@ prove_form _ = None
 abbrev pub prove_files : FilePlaces
 prove_files = record { config = None; input = Some 1 }
 
--- The proof of the leaves from start to end, without end, of a byte string: the roots of the largest subtrees that cover all
--- other leaves, from left to right. A range without leaves, or past the last leaf, is refused.
-unfoldable pub range_proof : List ℕ → ℕ → ℕ → Result (List (List ℕ)) Refusal
-range_proof bytes start end =
-    if nat_lt start end && nat_le end (leaf_count (length bytes))
-    then Ok (segment_roots (map leaf_digest (leaves_of bytes)) (cover (others (places_between start end)) (leaf_count (length bytes))))
-    else Err refusal.Range
+-- what is found of a file: its root, the hashes of a proof, and how many bytes it has
+pub record Found : Type 0 where
+  pub root : List ℕ
+  pub hashes : List (List ℕ)
+  pub size : ℕ
+
+-- What is found of bytes: their root, the roots of the largest subtrees that cover all leaves but those from start to end, from
+-- left to right, and how many bytes there are.
+abbrev pub found_of : ℕ → ℕ → List ℕ → Found
+found_of start end bytes = record {
+  root = root_of (leaves_of bytes);
+  hashes = segment_roots (map leaf_digest (leaves_of bytes)) (cover (others (places_between start end)) (leaf_count (length bytes)));
+  size = length bytes;
+}
+
+-- a proof, and how many bytes a file has, as what is found of it
+abbrev pub seen : RangeProof → ℕ → Found
+seen proof size = record { root = proof.root; hashes = proof.hashes; size = size }
+
+-- what is found of a file of at most 2^30 bytes
+unfoldable pub proof_found : ℕ → ℕ → List ℕ → Result Found Stop
+proof_found start end file = do
+  bytes ← within (2 ^ 30) file
+  Ok (found_of start end bytes)
+
+-- The proof of the leaves from start to end, without end. A range without leaves, or past the last leaf, is refused.
+unfoldable pub range_proof : ℕ → ℕ → Found → Result (List (List ℕ)) Refusal
+range_proof start end found = if nat_lt start end && nat_le end (leaf_count found.size) then Ok found.hashes else Err refusal.Range
 
 -- a line for each hash of a proof, in order
 unfoldable pub hash_lines : List (List ℕ) → List ℕ
@@ -56,6 +78,6 @@ prove_text root leaves hashes = leaves_line root leaves ++ hash_lines hashes
 -- range is judged.
 unfoldable pub prove_outcome : ℕ → ℕ → List ℕ → Result (List ℕ) Stop
 prove_outcome start end file = do
-  bytes ← within (2 ^ 30) file
-  hashes ← or_refused (range_proof bytes start end)
-  Ok (prove_text (root_of (leaves_of bytes)) (leaf_count (length bytes)) hashes)
+  found ← proof_found start end file
+  hashes ← or_refused (range_proof start end found)
+  Ok (prove_text found.root (leaf_count found.size) hashes)

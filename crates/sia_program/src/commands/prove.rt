@@ -1,22 +1,22 @@
-//! `prove FILE A B`: the proof of a range of a file's leaves.
+//! `prove FILE A B`: the proof of a range of a file's leaves. The file is read in pieces and hashed as it comes.
 ghost use Rattle.std.specs.Prelude.{◌≡◌, ◌≤◌, ◌++◌, Err, IfOk, IfSome, OnOk, string_bytes};
 ghost use Rattle.sia_edge.specs.Edge.{Rose};
 ghost use Rattle.sia_encoding.specs.Answer.{Answers};
 ghost use Rattle.sia_program.specs.Answer.{ReadToEnd};
 ghost use Rattle.sia_program.specs.Commands.Prove.{hash_lines, leaves_line as leaves_line_of, prove_form as prove_form_of};
-ghost use Rattle.sia_program.specs.Commands.Prove.{prove_outcome, prove_text as prove_text_of, range_proof as range_proof_of};
+ghost use Rattle.sia_program.specs.Commands.Prove.{proof_found, prove_outcome, seen, prove_text as prove_text_of, range_proof as range_proof_of};
 ghost use Rattle.sia_program.specs.Told.{refusal_told, stop_told};
 
 use crate::form::{FilePlaces, Form};
-use crate::input::{INPUT_BOUND, read_within};
+use crate::input::INPUT_BOUND;
 use crate::lines::{hash_text, put_text};
 use crate::stop::{Fault, Refusal, Stop};
 use crate::words::read_number;
 use sia_blake::Hash;
-use sia_edge::Source;
-use sia_encoding::{Blob, List};
-use sia_merkle::{leaves, root};
-use sia_range::prove_range;
+use sia_edge::{Source, fill_from};
+use sia_encoding::Blob;
+use sia_merkle::leaves;
+use sia_range::{PIECE_LEN, RangeProof, RangeProver};
 use std::alloc::{AllocError, Global};
 
 /// The second word names the file.
@@ -44,15 +44,47 @@ pub(crate) fn prove_form(words: &[Blob]) -> Option<Form>
     }
 }
 
+/// The root of a file that is read in pieces, with the proof of the leaves from `start` to `end`, and how many bytes it has.
+fn find_proof<S: Source>(
+    alloc: Global,
+    start: u64,
+    end: u64,
+    input: &mut S,
+) -> Result<(RangeProof, u64), Stop>
+    ensures told { IfSome (S.left input.old) (λ left. Answers (λ found. seen found.0 found.1) stop_told result (proof_found start end left)) }
+    ensures ended { OnOk result (ReadToEnd (S.left input.old) (S.left input.new)) }
+    ensures later { S.faults input.old ≤ S.faults input.new }
+    ensures failed { result ≡ Err Stop.Outside → Rose (S.faults input.old) (S.faults input.new) }
+{
+    let mut prover = RangeProver::new(alloc, start, end);
+    let mut buffer = [0; PIECE_LEN];
+    let mut size = 0;
+    for _ in 0..INPUT_BOUND / PIECE_LEN as u64 + 1 {
+        let Ok(count) = fill_from(input, &mut buffer) else {
+            return Err(Stop::Outside);
+        };
+        let (piece, _) = buffer.split_at(count);
+        size += count as u64;
+        if size > INPUT_BOUND {
+            return Err(Stop::Long);
+        }
+        if count < PIECE_LEN {
+            let proof = prover.finish(piece)?;
+            return Ok((proof, size));
+        }
+        prover = prover.push(piece)?;
+    }
+    Err(Stop::Long)
+}
+
 /// The proof of the leaves from `start` to `end`, without `end`. It is refused with [`Refusal::Range`] exactly where the
 /// range has no leaf or ends past the last one.
 #[tactic(auto, unfolding(crate::specs::Commands::Prove::range_proof))]
-fn range_proof(alloc: Global, bytes: &[u8], start: u64, end: u64) -> Result<List<Hash>, Fault>
-    ensures { Answers (λ hashes. hashes) refusal_told result (range_proof_of bytes.now start end) }
+fn range_proof(start: u64, end: u64, proof: &RangeProof, size: u64) -> Result<&[Hash], Fault>
+    ensures { Answers (λ hashes. hashes.now) refusal_told result (range_proof_of start end (seen proof.now size)) }
 {
-    if start < end && end <= leaves(bytes.len() as u64) {
-        let hashes = prove_range(alloc, bytes, start, end)?;
-        Ok(hashes)
+    if start < end && end <= leaves(size) {
+        Ok(proof.hashes.as_slice())
     } else {
         Err(Fault::Refused(Refusal::Range))
     }
@@ -106,9 +138,8 @@ pub(crate) fn text_of_prove<S: Source>(
     ensures later { S.faults input.old ≤ S.faults input.new }
     ensures failed { result ≡ Err Stop.Outside → Rose (S.faults input.old) (S.faults input.new) }
 {
-    let bytes = read_within(alloc, input, INPUT_BOUND)?;
-    let hashes = range_proof(alloc, bytes.as_slice(), start, end)?;
-    let hash = root(bytes.as_slice());
-    let text = prove_text(alloc, &hash, leaves(bytes.len() as u64), hashes.as_slice())?;
+    let (proof, size) = find_proof(alloc, start, end, input)?;
+    let hashes = range_proof(start, end, &proof, size)?;
+    let text = prove_text(alloc, &proof.root, leaves(size), hashes)?;
     Ok(text)
 }

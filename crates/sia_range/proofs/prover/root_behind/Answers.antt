@@ -1,4 +1,4 @@
-use Rattle.std.proofs.Common.{◌++◌, sym, ◌∙◌, ap, arith}
+use Rattle.std.proofs.Common.{◌++◌, ◌∙◌, ap, arith}
 use Rattle.sia_merkle.specs.Roots.{node_root_of}
 use Rattle.sia_range.proofs.Kept.{last_none, last_some}
 use Rattle.sia_range.proofs.prover.root_behind.Goals as goal

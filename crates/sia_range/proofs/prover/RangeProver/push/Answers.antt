@@ -3,7 +3,7 @@ use Rattle.sia_merkle.specs.Pieces.{noted_bytes}
 use Rattle.sia_merkle.specs.Roots.{leaf_digest, leaves_of}
 use Rattle.sia_merkle.proofs.Cuts.{length-leaf_hashes}
 use Rattle.sia_merkle.proofs.Trees.{node_root_of-at}
-use Rattle.sia_range.specs.Proving.{IsKept, Proving}
+use Rattle.sia_range.specs.Proving.{KeepsProof, Proving}
 use Rattle.sia_range.proofs.Kept.{kept_more}
 use Rattle.sia_range.proofs.prover.RangeProver.push.Goals as goal
 
@@ -19,7 +19,7 @@ pub invariant_of-self : goal.invariant_of-self
 invariant_of-self c =
     let long : length (noted_bytes c.self.inside.noted) ≡ length c.args.self.bytes = ap (λ (seen : Proving). length seen.bytes) c.self.view_is in
     let room : length (noted_bytes c.self.inside.noted) + 65536 < 2 ^ 64 = omega (arith, c.requires.room) in
-    subst (λ (bytes : List ℕ). IsKept (c.self.inside.count + 1) c.self.inside.places.start c.self.inside.places.end c.push_hash.new.self c.append_part.new.roots bytes) (sym c.note.ensures)
-    (subst (λ (pieces : List (List ℕ)). IsKept (c.self.inside.count + 1) c.self.inside.places.start c.self.inside.places.end pieces c.append_part.new.roots (noted_bytes c.self.inside.noted ++ c.args.piece.now)) (sym c.push_hash.ensures)
+    subst (λ (bytes : List ℕ). KeepsProof (c.self.inside.count + 1) c.self.inside.places.start c.self.inside.places.end c.push_hash.new.self c.append_part.new.roots bytes) (sym c.note.ensures)
+    (subst (λ (pieces : List (List ℕ)). KeepsProof (c.self.inside.count + 1) c.self.inside.places.start c.self.inside.places.end pieces c.append_part.new.roots (noted_bytes c.self.inside.noted ++ c.args.piece.now)) (sym c.push_hash.ensures)
     (kept_more c.self.inside.count c.self.inside.places.start c.self.inside.places.end c.self.inside.pieces c.self.inside.outer c.append_part.new.roots _ c.args.piece.now c.root-piece_root.result
     c.self.invariant c.requires.piece room c.root-piece_root.ensures c.in_ok-append_part.ensures))
