@@ -24,6 +24,10 @@
 #![tactic(auto)]
 
 mod amounts;
+mod fault;
 pub mod laws;
+mod values;
 
 pub use amounts::{COIN, FUND_COUNT, payout_for, subsidy, tax};
+pub use fault::BlockFault;
+pub use values::TxSums;
