@@ -14,8 +14,8 @@
 //! - [`Transaction`], [`Block`], [`CoinInput`], [`CoinOutput`], [`FundInput`], [`FundOutput`], [`FileContract`], [`Revision`],
 //!   [`StorageProof`], [`UnlockConditions`], [`PublicKey`], [`Signature`], [`Covered`], [`UpdateProof`] and [`DiffProof`] are
 //!   items: reading and spelling are exactly their codec's, with the first fault and its offset, and its law holds.
-//! - A [`Block`] has no transactions yet: its spelling ends with their count, 0, and reading one that has some is refused at
-//!   their count.
+//! - [`Terms::copy`] is the same terms. [`Terms`] and [`Coin`] are what a ledger tells of a contract and of an output: no
+//!   bytes are stated for them.
 //! - [`Transaction::encode_unsigned`] appends the spelling of all fields but the signatures; that and the signatures are the
 //!   transaction's spelling ([`laws::signatures_come_last`]).
 //!
@@ -25,6 +25,7 @@
 #![tactic(auto)]
 
 mod block;
+mod coin;
 mod coins;
 mod conditions;
 mod diff_proof;
@@ -33,10 +34,12 @@ mod funds;
 pub mod laws;
 mod sig_fault;
 mod signature;
+mod terms;
 mod transaction;
 mod update_proof;
 
 pub use block::Block;
+pub use coin::Coin;
 pub use coins::{CoinInput, CoinOutput};
 pub use conditions::{PublicKey, UnlockConditions};
 pub use diff_proof::DiffProof;
@@ -45,5 +48,6 @@ pub use funds::{FundInput, FundOutput};
 pub use sia_encoding::{Blob, DecodeFault, Item, List};
 pub use sig_fault::SigFault;
 pub use signature::{Covered, Signature};
+pub use terms::Terms;
 pub use transaction::Transaction;
 pub use update_proof::UpdateProof;
