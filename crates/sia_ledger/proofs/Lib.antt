@@ -1,10 +1,2 @@
-pub mod Amount
-pub mod FactLists
-pub mod ChainLists
-pub mod Repeats
-pub mod Verdicts
-pub mod Keeping
-pub mod Lengths
-pub mod Covered
-pub mod Apart
-pub mod MadeTwice
+pub mod Claims
+pub mod Held

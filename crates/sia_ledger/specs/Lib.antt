@@ -1,7 +1,14 @@
 pub mod Answers
 pub mod Chain
 pub mod Facts
+pub mod State
+pub mod Order
+pub mod Effects
+pub mod Blocks
 pub mod Holdings
+pub mod Rules
 pub mod Refusal
-pub mod Texts
+pub mod Genesis
+pub mod Known
+pub mod Paying
 pub mod Kept

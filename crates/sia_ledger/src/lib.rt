@@ -29,20 +29,14 @@
 //! amounts.
 #![tactic(auto)]
 
-mod amounts;
 mod fact;
 mod fault;
-mod judging;
-mod ledger;
-mod made;
-mod making;
 mod params;
-mod parts;
 mod sums;
 
-pub use fact::{Fact, Made};
-pub use fault::{BlockFault, GenesisFault, RevertFault};
-pub use ledger::Ledger;
+pub use fact::{Deed, Fact};
+pub use fault::{GenesisFault, RevertFault};
 pub use params::Params;
-pub use sia_types::{Block, CoinOutput, FundOutput};
-pub use sums::Sums;
+pub use sia_rules::BlockFault;
+pub use sia_types::{Block, Coin, CoinOutput, FundOutput, Terms};
+pub use sums::{Status, Sums};
