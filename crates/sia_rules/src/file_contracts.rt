@@ -74,12 +74,7 @@ pub fn revision_rule(
 /// # Errors
 /// `RevNumber` exactly where it hasn't. It takes no memory.
 #[tactic(auto, unfolding(crate::specs::FileContracts::revision_number))]
-pub fn revision_number(
-    revision: &Revision,
-    terms: &Terms,
-    t: u64,
-    i: u64,
-) -> Result<(), BlockFault>
+pub fn revision_number(revision: &Revision, terms: &Terms, t: u64, i: u64) -> Result<(), BlockFault>
     ensures { Answers (λ _. tt) block_told result (unless (revision_number_fault t i terms.now revision.now)) }
 {
     if revision.number <= terms.number {

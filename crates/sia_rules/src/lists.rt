@@ -1,13 +1,13 @@
 //! What the lists of a transaction must be, whatever the chain.
-ghost use Rattle.std.specs.Prelude.{◌≡◌, ℕ, List as Sequence, map};
+ghost use Rattle.std.specs.Prelude.{◌≡◌, ◌||◌, ℕ, List as Sequence, map};
 ghost use Rattle.std.specs.List.{list_any};
 ghost use Rattle.std.specs.Str.{bytes_eq};
 ghost use Rattle.sia_encoding.specs.Answer.{Answers, unless};
 ghost use Rattle.sia_rules.specs.Answers.{block_told};
-ghost use Rattle.sia_rules.specs.Shape.{makes_nothing as makes_nothing_of, names_twice, shape_fault};
+ghost use Rattle.sia_rules.specs.Shape.{makes_nothing as makes_nothing_of, coin_parents, fund_parents, revision_parents, proof_parents, names_twice, proof_mix, repeated, shape_fault};
 
 use crate::fault::BlockFault;
-use sia_types::{CoinInput, FundInput, Revision, StorageProof, Transaction};
+use sia_types::{CoinInput, FundInput, List, Revision, StorageProof, Transaction};
 
 /// What names a parent: an input, a revision or a storage proof.
 pub trait Naming {
@@ -56,21 +56,51 @@ impl Naming for StorageProof {
 /// # Errors
 /// `ProofMix` exactly where a storage proof stands beside an output, a contract or a revision, then `Repeated` exactly where two
 /// entries of one of its lists name one parent. It takes no memory.
-#[tactic(auto, unfolding(crate::specs::Shape::proof_mix, crate::specs::Shape::repeated))]
 pub fn shape(tx: &Transaction, t: u64) -> Result<(), BlockFault>
     ensures { Answers (λ _. tt) block_told result (unless (shape_fault t tx.now)) }
 {
-    if tx.proofs.len() != 0 && !makes_nothing(tx) {
+    check_mix(tx, t)?;
+    check_parents(tx, t)
+}
+
+// Whether a storage proof stands beside nothing that makes or revises.
+#[tactic(auto, unfolding(crate::specs::Shape::proof_mix))]
+fn check_mix(tx: &Transaction, t: u64) -> Result<(), BlockFault>
+    ensures { Answers (λ _. tt) block_told result (unless (proof_mix t tx.now)) }
+{
+    let mixes = tx.proofs.len() != 0 && !makes_nothing(tx);
+    if mixes {
         return Err(BlockFault::ProofMix { t });
     }
-    if names_one_twice(tx.coin_inputs.as_slice())
-        || names_one_twice(tx.fund_inputs.as_slice())
-        || names_one_twice(tx.revisions.as_slice())
-        || names_one_twice(tx.proofs.as_slice())
-    {
+    Ok(())
+}
+
+// Whether no list names a parent twice.
+#[tactic(auto, unfolding(crate::specs::Shape::repeated))]
+fn check_parents(tx: &Transaction, t: u64) -> Result<(), BlockFault>
+    ensures { Answers (λ _. tt) block_told result (unless (repeated t tx.now)) }
+{
+    if repeats_a_parent(tx) {
         return Err(BlockFault::Repeated { t });
     }
     Ok(())
+}
+
+// Whether one of the lists names a parent twice.
+fn repeats_a_parent(tx: &Transaction) -> bool
+    ensures { result ≡ (names_twice (coin_parents tx.now.coin_inputs) || names_twice (fund_parents tx.now.fund_inputs) || names_twice (revision_parents tx.now.revisions) || names_twice (proof_parents tx.now.proofs)) }
+{
+    repeats(&tx.coin_inputs)
+        || repeats(&tx.fund_inputs)
+        || repeats(&tx.revisions)
+        || repeats(&tx.proofs)
+}
+
+// Whether the list names a parent twice.
+fn repeats<T: Naming>(entries: &List<T>) -> bool
+    ensures { result ≡ names_twice (map T.named entries.now) }
+{
+    names_one_twice(entries.as_slice())
 }
 
 // Whether it makes no output or contract, and revises none.

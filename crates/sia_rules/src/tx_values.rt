@@ -109,20 +109,20 @@ fn is_large(valid: &[CoinOutput], missed: &[CoinOutput]) -> bool
 fn has_large_contract(tx: &Transaction) -> bool
     ensures { result ≡ list_any (λ (contract : FileContract). are_too_large contract.valid contract.missed) tx.now.contracts }
 {
-    tx.contracts
-        .as_slice()
-        .iter()
-        .any(|contract| is_large(contract.valid.as_slice(), contract.missed.as_slice()))
+    tx.contracts.as_slice().iter().any(|contract| is_large(
+        contract.valid.as_slice(),
+        contract.missed.as_slice(),
+    ))
 }
 
 // Whether outputs of a revision sum to more than fits.
 fn has_large_revision(tx: &Transaction) -> bool
     ensures { result ≡ list_any (λ (revision : Revision). are_too_large revision.valid revision.missed) tx.now.revisions }
 {
-    tx.revisions
-        .as_slice()
-        .iter()
-        .any(|revision| is_large(revision.valid.as_slice(), revision.missed.as_slice()))
+    tx.revisions.as_slice().iter().any(|revision| is_large(
+        revision.valid.as_slice(),
+        revision.missed.as_slice(),
+    ))
 }
 
 // Whether a siafund output holds none, or has a claim start.

@@ -1,4 +1,4 @@
-use Rattle.std.proofs.Common.{◌≡◌, ◌≤◌, ap, sym, ◌∙◌, arith}
+use Rattle.std.proofs.Common.{◌≡◌, ◌≤◌, refl, arith}
 use Rattle.sia_rules.specs.Sums.{coins_out, fees_of}
 use Rattle.sia_rules.proofs.Fitting.{part_fits}
 use Rattle.sia_rules.proofs.tx_values.fees_within.Goals as goal
