@@ -10,7 +10,7 @@ use Rattle.sia_types.specs.declared.funds.FundOutput.{FundOutput}
 use Rattle.sia_types.specs.declared.transaction.Transaction.{Transaction}
 use Rattle.sia_rules.specs.declared.fault.BlockFault.{BlockFault}
 use Rattle.sia_rules.specs.declared.fault.BlockFault.TheVariants as block_fault
-use Rattle.sia_rules.specs.declared.values.TxSums.{TxSums}
+use Rattle.sia_rules.specs.declared.tx_values.TxSums.{TxSums}
 use Rattle.sia_rules.specs.Amounts.{is_too_large}
 use Rattle.sia_rules.specs.Sums.{coin_sum, coins_out, fees_of, funds_out}
 
