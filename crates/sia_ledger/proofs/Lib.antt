@@ -1,2 +1,4 @@
 pub mod Claims
 pub mod Held
+pub mod LastDeeds
+pub mod NeedFaults

@@ -29,13 +29,37 @@
 //! amounts.
 #![tactic(auto)]
 
+mod balance;
+mod base;
+mod claiming;
+mod coins;
+mod contracts;
+mod draft;
+mod effects;
+mod ending;
+mod entries;
 mod fact;
 mod fault;
+mod funds;
+mod genesis;
+mod heads;
+mod holdings;
+mod judging;
+mod ledger;
+mod lookups;
+mod owned;
 mod params;
+mod parts;
+mod proving;
+mod settling;
+mod standing;
 mod sums;
+mod transactions;
+mod unlocking;
 
 pub use fact::{Deed, Fact};
 pub use fault::{GenesisFault, RevertFault};
+pub use ledger::Ledger;
 pub use params::Params;
 pub use sia_rules::BlockFault;
 pub use sia_types::{Block, Coin, CoinOutput, FundOutput, Terms};
