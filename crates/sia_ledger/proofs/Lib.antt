@@ -1,2 +1,14 @@
+pub mod Always
+pub mod Bounds
 pub mod Claims
+pub mod Conserved
+pub mod Course
+pub mod Endings
+pub mod Grown
 pub mod Held
+pub mod Keeps
+pub mod Missed
+pub mod Moves
+pub mod Outcomes
+pub mod Stages
+pub mod Standing

@@ -12,3 +12,5 @@ pub mod Genesis
 pub mod Known
 pub mod Paying
 pub mod Kept
+pub mod Bounded
+pub mod Courses
