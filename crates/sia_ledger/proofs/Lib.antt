@@ -3,10 +3,12 @@ pub mod Bounds
 pub mod Claims
 pub mod Conserved
 pub mod Course
+pub mod Covering
 pub mod Endings
 pub mod Grown
 pub mod Held
 pub mod Keeps
+pub mod Lengths
 pub mod Missed
 pub mod Moves
 pub mod Outcomes

@@ -8,7 +8,7 @@ use Rattle.std.specs.Cmp.Lexicographic.{same_text, slice_cmp}
 use Rattle.std.proofs.lemmas.Bool.{eqb-true}
 use Rattle.sia_ledger.specs.declared.fact.Deed.TheVariants as deed
 use Rattle.sia_ids.specs.Transactions.{claim_id, settlement_id}
-use Rattle.sia_ledger.specs.Blocks.{ends_at, ending, facts}
+use Rattle.sia_ledger.specs.Blocks.{ends_at, ending}
 use Rattle.sia_ledger.specs.Chain.{height}
 use Rattle.sia_ledger.specs.Courses.{final_in, proves, settlements}
 use Rattle.sia_ledger.specs.Effects.{is_paying, settlement_facts, settled_with, settled, with_fund_input}

@@ -149,7 +149,7 @@ made_stage s x g f is pays here most moves =
     exact was = record { before = was.before; moves = rw was.facts (moves was.new was.before) }
 
 -- one that pays no tax
-new_stage : (s : State) (x : Fact) → makes x.deed ≡ true → tax_of x.deed ≡ 0 → AllPay s.facts → PaysOut x.deed → Stage s (add s x) (coins_of x.deed + held_by x.deed) 0 (funds_of x.deed) 0
+pub new_stage : (s : State) (x : Fact) → makes x.deed ≡ true → tax_of x.deed ≡ 0 → AllPay s.facts → PaysOut x.deed → Stage s (add s x) (coins_of x.deed + held_by x.deed) 0 (funds_of x.deed) 0
 new_stage s x is untaxed pays here = made_stage s x (coins_of x.deed + held_by x.deed) (funds_of x.deed) is pays here
     (λ new. at_most _ _ _ _ _ _ (push_new s.facts x untaxed new))
     (λ new none. push_new s.facts x untaxed new)

@@ -14,3 +14,4 @@ pub mod Paying
 pub mod Kept
 pub mod Bounded
 pub mod Courses
+pub mod Texts
