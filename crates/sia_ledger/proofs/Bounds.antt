@@ -76,7 +76,7 @@ claims_fit accepts maturity s t tx (fees, sum, fits, most) none = of_fields (tra
 
 -- what is kept of a chain
 
-kept_whole : (chain : Chain) (ids : List (List ℕ)) (facts : List Fact) (marks : List ℕ) → IsKept chain ids facts marks → IsMost (record { ids = ids; facts = facts; twice = None }) 0 (issued (height chain))
+pub kept_whole : (chain : Chain) (ids : List (List ℕ)) (facts : List Fact) (marks : List ℕ) → IsKept chain ids facts marks → IsMost (record { ids = ids; facts = facts; twice = None }) 0 (issued (height chain))
 kept_whole chain ids facts marks kept = subst (λ (s : State). IsMost s 0 (issued (height chain))) kept.state (wholly_most (state_of chain) (issued (height chain)) (chain_whole chain kept.sound))
 
 -- before a block

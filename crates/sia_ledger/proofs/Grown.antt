@@ -44,7 +44,7 @@ accepted_less maturity (first ∷ blocks) block s (here, all) = (here, accepted_
 done_new : (accepts : List ℕ → List ℕ → List ℕ → Bool) (maturity : ℕ) (s : State) (block : Block) → verdict accepts maturity s block ≡ None → (done_by maturity block s).twice ≡ None
 done_new accepts maturity s block none = (block_stands accepts maturity s block none).new
 
-after_is : (maturity : ℕ) (s : State) (block : Block) → after_block maturity s block ≡ known (s.ids ++ block_id block ∷ []) (done_by maturity block s).facts (done_by maturity block s).twice
+pub after_is : (maturity : ℕ) (s : State) (block : Block) → after_block maturity s block ≡ known (s.ids ++ block_id block ∷ []) (done_by maturity block s).facts (done_by maturity block s).twice
 unfolding after_block
 after_is maturity s block = refl
 

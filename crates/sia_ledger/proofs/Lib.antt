@@ -14,3 +14,4 @@ pub mod Moves
 pub mod Outcomes
 pub mod Stages
 pub mod Standing
+pub mod Totals
