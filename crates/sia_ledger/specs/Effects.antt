@@ -1,5 +1,5 @@
 -- What transactions do, field by field in the order of their fields (siad's doc/Consensus.md).
-use Rattle.std.specs.Prelude.{ℕ, ◌+◌, ◌==◌, not, Bool, List, [], ◌∷◌, map, fold, if◌then◌else◌, Option, Some, None}
+use Rattle.std.specs.Prelude.{ℕ, ◌+◌, ◌==◌, not, Bool, true, List, [], ◌∷◌, map, fold, if◌then◌else◌, Option, Some, None}
 use Rattle.sia_types.specs.declared.coins.CoinInput.{CoinInput}
 use Rattle.sia_types.specs.declared.coins.CoinOutput.{CoinOutput}
 use Rattle.sia_types.specs.declared.file_contracts.FileContract.{FileContract}

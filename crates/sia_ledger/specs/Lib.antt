@@ -14,4 +14,6 @@ pub mod Paying
 pub mod Kept
 pub mod Bounded
 pub mod Courses
+pub mod Texts
 pub mod Claiming
+pub mod Judging
