@@ -17,4 +17,5 @@ pub mod Standing
 pub mod Totals
 pub mod LastDeeds
 pub mod NeedFaults
-pub mod Parts
+pub mod Halves
+pub mod Shares

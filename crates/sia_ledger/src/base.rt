@@ -1,5 +1,5 @@
 //! What is kept of a chain while a block is judged.
-ghost use Rattle.std.specs.Prelude.{◌≡◌, ◌<◌, length, None};
+ghost use Rattle.std.specs.Prelude.{◌≡◌, ◌<◌, length};
 ghost use Rattle.sia_ledger.specs.Holdings.{last_id};
 ghost use Rattle.sia_ledger.specs.Judging.{state_kept};
 ghost use Rattle.sia_ledger.specs.State.{next};
@@ -16,6 +16,7 @@ pub(crate) struct Base<'a> {
 }
 
 impl<'a> Model for Base<'a> {
+    ghost use Rattle.std.specs.Prelude.{None};
     ghost use Rattle.sia_ledger.specs.State.{State};
 
     ghost Value = { State };

@@ -51,8 +51,8 @@ fn claim_here(first: &Fact, after: &[Fact], later: &[Fact], id: &Hash) -> u128
     share_of(&first.deed, after, later)
 }
 
-// What a siafund output claims of the taxes that came since.
-fn share_of(deed: &Deed, since: &[Fact], later: &[Fact]) -> u128
+/// What a siafund output claims of the taxes that came since.
+pub(crate) fn share_of(deed: &Deed, since: &[Fact], later: &[Fact]) -> u128
     requires { share deed.now (since.now ++ later.now) < 2 ^ 128 }
     ensures { result ≡ share deed.now (since.now ++ later.now) }
 {

@@ -1,19 +1,15 @@
 //! The ledger: a chain, and what is kept of it.
-ghost use Rattle.std.specs.Prelude.{◌≡◌, ℕ, ◌+◌, ◌<◌, ◌≤◌, ◌^◌, ◌↔◌, ◌++◌, List as Sequence, length, Err, IfOk, IfErr, OnOk, OnErr};
+ghost use Rattle.std.specs.Prelude.{◌≡◌, ◌+◌, ◌↔◌, ◌++◌, Err, IfOk, OnOk, OnErr};
 ghost use Rattle.sia_encoding.specs.Answer.{Answers, unless};
 ghost use Rattle.sia_ids.specs.Identifiers.{block_id};
-ghost use Rattle.sia_rules.specs.declared.fault.BlockFault.TheVariants as block_fault;
 ghost use Rattle.sia_rules.specs.Answers.{block_told};
 ghost use Rattle.sia_ledger.specs.declared.fault.RevertFault.TheVariants as revert_fault;
-ghost use Rattle.sia_ledger.specs.declared.sums.Status.TheVariants as status_variant;
 ghost use Rattle.sia_ledger.specs.Answers.{genesis_told};
 ghost use Rattle.sia_ledger.specs.Blocks.{done_by, state_of};
 ghost use Rattle.sia_ledger.specs.Chain.{begun, extended, height, shortened};
-ghost use Rattle.sia_ledger.specs.Courses.{EachProofIsRight, EndedUnproved, HoldsProof};
 ghost use Rattle.sia_ledger.specs.Genesis.{genesis_refusal};
 ghost use Rattle.sia_ledger.specs.Holdings.{coins_at, id_at, status_of, sums_of, terms_of, tip};
 ghost use Rattle.sia_ledger.specs.Refusal.{refusal, set_refusal};
-ghost use Rattle.sia_ledger.specs.Texts.{IsMadeTwice};
 
 use crate::base::{Base, tip_of};
 use crate::fact::Fact;
@@ -27,13 +23,13 @@ use crate::owned::owned_by;
 use crate::params::Params;
 use crate::parts::{drop_block, push_block};
 use crate::sums::{Status, Sums};
-use crate::standing::{status_among, terms_among};
+use crate::present::{status_among, terms_among};
 use sia_blake::Hash;
 use sia_encoding::{List, Steps};
 use sia_ids::genesis_id;
 use sia_rules::BlockFault;
 use sia_sign::SigCheck;
-use sia_types::{Block, Coin, FundOutput, Terms, Transaction};
+use sia_types::{Block, Coin, FundOutput, Item, Terms, Transaction};
 use std::alloc::{AllocError, Global};
 use std::marker::Model;
 use std::sync::ledger::Ledger as StepBook;
@@ -106,7 +102,6 @@ impl Ledger {
         steps: &mut Steps<L>,
     ) -> Result<(), BlockFault>
         ensures judged { Answers (λ _. tt) block_told result (unless (refusal C.verdict self.now block.now)) }
-        ensures twice { IfErr result (λ fault. (id : Sequence ℕ) → fault ≡ block_fault.SameId id → IsMadeTwice (extended self.now block.now) id) }
         ensures counted { steps.new ≡ steps.old + 1 }
     {
         steps.tick();
@@ -128,7 +123,6 @@ impl Ledger {
         ensures judged { Answers (λ _. tt) block_told result (unless (refusal C.verdict self.old block.now)) }
         ensures applied { OnOk result (self.new ≡ extended self.old block.now) }
         ensures unchanged { OnErr result (self.new ≡ self.old) }
-        ensures twice { IfErr result (λ fault. (id : Sequence ℕ) → fault ≡ block_fault.SameId id → IsMadeTwice (extended self.old block.now) id) }
         ensures counted { steps.new ≡ steps.old + 1 }
     {
         steps.tick();
@@ -252,7 +246,6 @@ impl Ledger {
         ensures judged { Answers (λ _. tt) block_told result (unless (refusal C.verdict self.now block.now)) }
         ensures id { IfOk result (λ judged. judged.id ≡ block_id block.now) }
         ensures made { IfOk result (λ judged. (state_of self.now).facts ++ judged.made ≡ (done_by self.now.maturity block.now (state_of self.now)).facts) }
-        ensures twice { IfErr result (λ fault. (id : Sequence ℕ) → fault ≡ block_fault.SameId id → IsMadeTwice (extended self.now block.now) id) }
     {
         let base = Base::new(self.ids.as_slice(), self.facts.as_slice());
         judge(alloc, self.maturity, &base, block, check)

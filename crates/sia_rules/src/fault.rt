@@ -13,11 +13,6 @@ use std::alloc::AllocError;
 /// decides.
 #[derive(Clone, Copy, Debug, PartialEq, Eq)]
 pub enum BlockFault {
-    /// B0: a transaction of the block does what isn't built yet.
-    Unbuilt {
-        /// The transaction.
-        t: u64,
-    },
     /// B1: its parent isn't the tip's identifier.
     BadParent {
         /// The tip's identifier.
