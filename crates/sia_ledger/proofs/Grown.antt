@@ -147,3 +147,15 @@ kept_none maturity funds ids facts is sums rested = record {
   low = omega arith;
   rested = rested;
 }
+
+-- the same, where the last block and the last mark were taken off
+pub kept_dropped : (maturity : ℕ) (funds : List FundOutput) (blocks left : List Block) (block : Block) (ids : List (List ℕ)) (facts after : List Fact) (marks rest : List ℕ) → IsKept (record { maturity = maturity; funds = funds; blocks = blocks }) ids facts marks → blocks ≡ left ++ block ∷ [] → ((earlier : List ℕ) (mark : ℕ) → marks ≡ earlier ++ mark ∷ [] → after ≡ take mark facts) → ((earlier : List ℕ) (mark : ℕ) → marks ≡ earlier ++ mark ∷ [] → rest ≡ earlier)
+    → IsKept (record { maturity = maturity; funds = funds; blocks = left }) (take (length ids - 1) ids) after rest
+kept_dropped maturity funds blocks left block ids facts after marks rest was are facts_are rest_are =
+    let chain : Chain = record { maturity = maturity; funds = funds; blocks = left } in
+    let longer : IsKept (extended chain block) ids facts marks = subst (λ (all : List Block). IsKept (record { maturity = maturity; funds = funds; blocks = all }) ids facts marks) are was in
+    let first = genesis_state funds in
+    let earlier = marks_of maturity first left in
+    let mark = length (fold (after_block maturity) first left).facts in
+    let split : marks ≡ earlier ++ mark ∷ [] = longer.marks_are ∙ marks_more maturity left block first in
+    rw (facts_are earlier mark split, rest_are earlier mark split) (kept_less chain block ids facts earlier mark (subst (λ (all : List ℕ). IsKept (extended chain block) ids facts all) split longer))

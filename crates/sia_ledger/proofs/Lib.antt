@@ -19,3 +19,6 @@ pub mod LastDeeds
 pub mod NeedFaults
 pub mod Halves
 pub mod Shares
+pub mod Beginning
+pub mod Ordered
+pub mod LastId

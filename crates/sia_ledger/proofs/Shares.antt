@@ -1,5 +1,5 @@
 -- Claims in shares.
-use Rattle.std.proofs.Common.{◌≡◌, ℕ, zero, suc, ◌+◌, ◌-◌, ◌*◌, ◌/◌, ◌^◌, ◌<◌, ◌≤◌, Bool, true, false, List, [], ◌∷◌, ◌++◌, refl, ap, sym, ◌∙◌, arith}
+use Rattle.std.proofs.Common.{◌≡◌, ℕ, zero, suc, ◌+◌, ◌-◌, ◌*◌, ◌/◌, ◌^◌, ◌<◌, ◌≤◌, Bool, true, false, List, [], ◌∷◌, ◌++◌, length, refl, ap, sym, ◌∙◌, arith}
 use Rattle.std.specs.Prelude.{min, ◌||◌, if◌then◌else◌}
 use Rattle.std.specs.List.{sum_by}
 use Rattle.std.specs.Str.{bytes_eq}
@@ -10,6 +10,8 @@ use Rattle.sia_ledger.specs.declared.fact.Deed.{Deed}
 use Rattle.sia_ledger.specs.declared.fact.Deed.TheVariants as deed
 use Rattle.sia_rules.specs.Amounts.{shares, tax, capped}
 use Rattle.sia_ledger.specs.Claiming.{shares_in, all_shares}
+use Rattle.sia_ledger.specs.Holdings.{unclaimed}
+use Rattle.sia_ledger.proofs.Claims.{unclaimed-nil}
 use Rattle.sia_ledger.specs.Facts.{claim_at, funds_of, is_known, share, tax_of, taxes}
 
 or_assoc : (a b c : Bool) → (a || (b || c)) ≡ ((a || b) || c)
@@ -79,3 +81,27 @@ pub cut_sum : (xs ys : List Fact) → min (capped (all_shares xs) + capped (all_
 cut_sum xs ys =
     let both = sum_by-append (λ (f : Fact). shares_in f.deed) xs ys in
     omega (arith, both)
+
+none_behind : (xs : List Fact) → xs ++ [] ≡ xs
+none_behind [] = refl
+none_behind (x ∷ xs) = ap (λ rest. x ∷ rest) (none_behind xs)
+
+-- the claim of a fact that nothing behind it is about
+pub claim_counted : (x : Fact) (rest : List Fact) → is_known rest x.id ≡ false → share x.deed (rest ++ []) + unclaimed rest ≡ unclaimed (x ∷ rest)
+unfolding unclaimed
+claim_counted x rest e =
+    ap (λ since. share x.deed since + unclaimed rest) (none_behind rest) ∙ ap (λ k. (if k then 0 else share x.deed rest) + unclaimed rest) (sym e)
+
+-- any other one claims nothing
+pub claim_uncounted : (x : Fact) (rest : List Fact) → is_known rest x.id ≡ true → 0 + unclaimed rest ≡ unclaimed (x ∷ rest)
+unfolding unclaimed
+claim_uncounted x rest e = ap (λ k. (if k then 0 else share x.deed rest) + unclaimed rest) (sym e)
+
+-- a claim fits where all do
+pub claim_fits : (x : Fact) (rest : List Fact) → is_known rest x.id ≡ false → unclaimed (x ∷ rest) < 2 ^ 128 → share x.deed (rest ++ []) < 2 ^ 128
+claim_fits x rest e fits = omega (arith, fits, claim_counted x rest e)
+
+-- no facts claim nothing
+pub unclaimed_nothing : (facts : List Fact) → length facts ≡ 0 → unclaimed facts ≡ 0
+unclaimed_nothing [] e = unclaimed-nil
+unclaimed_nothing (x ∷ facts) e = cc

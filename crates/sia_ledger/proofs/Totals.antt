@@ -13,6 +13,7 @@ use Rattle.sia_ledger.specs.Facts.{is_known}
 use Rattle.sia_ledger.specs.State.{State}
 use Rattle.sia_ledger.specs.Blocks.{after_block, genesis_state, state_of, facts}
 use Rattle.sia_ledger.specs.Holdings.{ids, held, coins_of, resting_at, outputs, immature, escrow, unclaimed}
+use Rattle.sia_ledger.specs.Bounded.{Totals}
 use Rattle.sia_ledger.specs.Kept.{IsKept}
 use Rattle.sia_ledger.specs.Paying.{total}
 use Rattle.sia_ledger.proofs.Bounds.{kept_whole}
@@ -64,15 +65,7 @@ immature-le height (x ∷ made) = by (is_known made x.id) (held-cons (resting_at
     by true one other rest = omega (arith, one, other, rest)
     by false one other rest = omega (arith, one, other, rest, resting-le height x.deed)
 
--- what is kept holds what was issued, so each sum has no more than 128 bits
-pub record Totals (chain : Chain) (made : List Fact) : Type 0 where
-  pub conserved : outputs made + escrow made + unclaimed made ≡ issued (height chain)
-  pub issued_fits : issued (height chain) < 2 ^ 128
-  pub outputs_fit : outputs made < 2 ^ 128
-  pub escrow_fits : escrow made < 2 ^ 128
-  pub unclaimed_fits : unclaimed made < 2 ^ 128
-  pub immature_fits : (at : ℕ) → immature at made < 2 ^ 128
-
+-- what is kept holds what was issued
 pub kept_totals : (chain : Chain) (all : List (List ℕ)) (made : List Fact) (marks : List ℕ) → IsKept chain all made marks → Totals chain made
 kept_totals chain all made marks kept =
     let most = kept_whole chain all made marks kept in

@@ -1,7 +1,7 @@
 //! The running contracts that end at a height, by ascending identifiers.
 ghost use Rattle.std.specs.Prelude.{◌≡◌, ◌≤◌, ◌++◌, ◌∷◌, length, take, drop, Some, IfOk, OnOk};
 ghost use Rattle.sia_ledger.specs.Blocks.{ending, ends_at};
-ghost use Rattle.sia_ledger.specs.Facts.{terms_in};
+ghost use Rattle.sia_ledger.specs.Facts.{is_known, terms_in};
 ghost use Rattle.sia_ledger.specs.Order.{put_by};
 
 use crate::fact::{Deed, Fact};
@@ -54,10 +54,20 @@ fn put_one(
     requires { ids.old.items ≡ ending height (after.now ++ later.now) }
     ensures { OnOk result (ids.new.items ≡ ending height (fact.now ∷ (after.now ++ later.now))) }
 {
-    if !is_ending(height, &fact.deed) || is_among(after, &fact.id) || is_among(later, &fact.id) {
+    if !is_ending(height, &fact.deed) {
+        return Ok(());
+    }
+    if is_behind(after, later, &fact.id) {
         return Ok(());
     }
     put_id(ids, &fact.id)
+}
+
+// Whether a fact of either list is about an identifier.
+fn is_behind(after: &[Fact], later: &[Fact], id: &Hash) -> bool
+    ensures { result ≡ is_known (after.now ++ later.now) id.now }
+{
+    is_among(after, id) || is_among(later, id)
 }
 
 // Whether it leaves a contract running that ends at a height.

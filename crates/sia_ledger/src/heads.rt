@@ -98,6 +98,7 @@ fn due(base: &Base<'_>, fees: Option<u128>) -> Option<u128>
 }
 
 // B4 in part: the first transaction of which a sum has more than 128 bits; else all fees, where they fit.
+#[tactic(auto, unfolding(sia_rules::specs::Sums::all_fees))]
 fn fees_of_all(txs: &[Transaction]) -> Result<Option<u128>, BlockFault>
     ensures judged { Answers (λ _. tt) block_told result (unless (first_at sum_too_large 0 txs.now)) }
     ensures fees { IfOk result (λ fees. fees ≡ fitting (all_fees txs.now)) }

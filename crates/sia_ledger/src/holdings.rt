@@ -1,6 +1,6 @@
 //! What a chain holds: sums over the facts that no later fact is about.
-ghost use Rattle.std.specs.Prelude.{◌≡◌, ◌+◌, ◌<◌, ◌^◌, ◌%◌, ◌∷◌};
-ghost use Rattle.sia_ledger.specs.Facts.{taxes, tax_of};
+ghost use Rattle.std.specs.Prelude.{◌≡◌, ◌+◌, ◌<◌, ◌^◌, ◌%◌, ◌∷◌, if◌then◌else◌};
+ghost use Rattle.sia_ledger.specs.Facts.{is_known, taxes, tax_of};
 ghost use Rattle.sia_ledger.specs.Holdings.{coins_of, escrow, held_by, immature, outputs, resting_at, unclaimed};
 
 use crate::claiming::share_of;
@@ -26,7 +26,13 @@ pub(crate) fn sum_of_outputs(facts: &[Fact]) -> u128
 fn coins_standing(fact: &Fact, after: &[Fact]) -> u128
     ensures { result + outputs after.now ≡ outputs (fact.now ∷ after.now) }
 {
-    let value = coins(&fact.deed);
+    counted(coins(&fact.deed), fact, after)
+}
+
+// A value, where none of the facts behind is about the same identifier; else 0.
+fn counted(value: u128, fact: &Fact, after: &[Fact]) -> u128
+    ensures { result ≡ (if is_known after.now fact.now.id then 0 else value) }
+{
     if value == 0 || is_among(after, &fact.id) {
         return 0;
     }
@@ -61,11 +67,7 @@ pub(crate) fn sum_of_immature(height: u64, facts: &[Fact]) -> u128
 fn resting_standing(height: u64, fact: &Fact, after: &[Fact]) -> u128
     ensures { result + immature height after.now ≡ immature height (fact.now ∷ after.now) }
 {
-    let value = resting(height, &fact.deed);
-    if value == 0 || is_among(after, &fact.id) {
-        return 0;
-    }
-    value
+    counted(resting(height, &fact.deed), fact, after)
 }
 
 // The value of a siacoin output that can't be spent at a height, and 0 of anything else.
@@ -96,11 +98,7 @@ pub(crate) fn sum_of_escrow(facts: &[Fact]) -> u128
 fn escrow_standing(fact: &Fact, after: &[Fact]) -> u128
     ensures { result + escrow after.now ≡ escrow (fact.now ∷ after.now) }
 {
-    let value = held(&fact.deed);
-    if value == 0 || is_among(after, &fact.id) {
-        return 0;
-    }
-    value
+    counted(held(&fact.deed), fact, after)
 }
 
 // What a running contract holds, and 0 of anything else.

@@ -1,17 +1,19 @@
 //! The ledger: a chain, and what is kept of it.
-ghost use Rattle.std.specs.Prelude.{◌≡◌, ◌+◌, ◌↔◌, ◌++◌, Err, IfOk, OnOk, OnErr};
+ghost use Rattle.std.specs.Prelude.{◌≡◌, ◌+◌, ◌<◌, ◌≤◌, ◌^◌, ◌↔◌, ◌++◌, Err, IfOk, OnOk, OnErr};
 ghost use Rattle.sia_encoding.specs.Answer.{Answers, unless};
 ghost use Rattle.sia_ids.specs.Identifiers.{block_id};
 ghost use Rattle.sia_rules.specs.Answers.{block_told};
 ghost use Rattle.sia_ledger.specs.declared.fault.RevertFault.TheVariants as revert_fault;
 ghost use Rattle.sia_ledger.specs.Answers.{genesis_told};
-ghost use Rattle.sia_ledger.specs.Blocks.{done_by, state_of};
+ghost use Rattle.sia_ledger.specs.Blocks.{done_by, facts, state_of, with_block};
+ghost use Rattle.sia_ledger.specs.Bounded.{IsBounded, Totals};
 ghost use Rattle.sia_ledger.specs.Chain.{begun, extended, height, shortened};
 ghost use Rattle.sia_ledger.specs.Genesis.{genesis_refusal};
-ghost use Rattle.sia_ledger.specs.Holdings.{coins_at, id_at, status_of, sums_of, terms_of, tip};
+ghost use Rattle.sia_ledger.specs.Holdings.{coins_at, id_at, ids, status_of, sums_of, terms_of, tip};
 ghost use Rattle.sia_ledger.specs.Refusal.{refusal, set_refusal};
+ghost use Rattle.sia_ledger.specs.State.{next};
 
-use crate::base::{Base, tip_of};
+use crate::base::Base;
 use crate::fact::Fact;
 use crate::fault::{GenesisFault, RevertFault};
 use crate::genesis::{check_params, make_genesis};
@@ -80,11 +82,12 @@ impl Ledger {
         if begun.twice.is_some() {
             return Err(GenesisFault::Memory);
         }
+        let ids = List::from_slice(alloc, &[id])?;
         Ok(Ledger {
             maturity,
             funds,
             blocks: List::new(alloc),
-            ids: List::from_slice(alloc, &[id])?,
+            ids,
             facts: begun.made,
             marks: List::new(alloc),
         })
@@ -170,8 +173,7 @@ impl Ledger {
     ) -> Result<(), BlockFault>
         ensures { Answers (λ _. tt) block_told result (unless (set_refusal C.verdict self.now tx.now)) }
     {
-        let base = Base::new(self.ids.as_slice(), self.facts.as_slice());
-        judge_alone(alloc, &base, tx, check)
+        judge_alone(alloc, &self.base(), tx, check)
     }
 
     /// What the chain holds.
@@ -180,8 +182,10 @@ impl Ledger {
         ensures conserved { result.outputs + result.escrow + result.unclaimed ≡ result.issued }
     {
         let height = self.height();
-        let facts = self.facts.as_slice();
-        let (outputs, escrow) = (sum_of_outputs(facts), sum_of_escrow(facts));
+        let base = self.base();
+        let facts = base.facts();
+        let outputs = sum_of_outputs(facts);
+        let escrow = sum_of_escrow(facts);
         let unclaimed = sum_of_claims(facts);
         Sums {
             height,
@@ -205,35 +209,49 @@ impl Ledger {
     pub fn tip(&self) -> Hash
         ensures { result ≡ tip self.now }
     {
-        tip_of(self.ids.as_slice())
+        self.base().tip()
     }
 
     /// The identifier of the block at a height, the genesis being at 0; `None` above the height of the last block.
     pub fn block_at(&self, height: u64) -> Option<Hash>
         ensures { result ≡ id_at self.now height }
     {
-        self.ids.get(height as usize).copied()
+        self.base().ids().get(height as usize).copied()
     }
 
     /// How the contract with this identifier stands.
     pub fn status(&self, contract: &Hash) -> Status
         ensures exact { result ≡ status_of self.now contract.now }
     {
-        status_among(self.facts.as_slice(), contract)
+        status_among(self.base().facts(), contract)
     }
 
     /// The present terms of the running contract with this identifier; `None` where none runs. Its error is want of memory.
     pub fn terms(&self, alloc: Global, contract: &Hash) -> Result<Option<Terms>, AllocError>
         ensures { IfOk result (λ terms. terms ≡ terms_of self.now contract.now) }
     {
-        terms_among(alloc, self.facts.as_slice(), contract)
+        terms_among(alloc, self.base().facts(), contract)
     }
 
     /// The live siacoin outputs at an address, by ascending identifiers. Its error is want of memory.
     pub fn coins(&self, alloc: Global, address: &Hash) -> Result<List<Coin>, AllocError>
         ensures { IfOk result (λ coins. coins ≡ coins_at self.now address.now) }
     {
-        owned_by(alloc, address, self.facts.as_slice())
+        owned_by(alloc, address, self.base().facts())
+    }
+
+    // What is kept of the chain.
+    fn base(&self) -> Base<'_>
+        ensures state { result ≡ state_of self.now }
+        ensures ids { result.ids ≡ ids self.now }
+        ensures next { next result ≡ height self.now + 1 }
+        ensures low { height self.now < 2 ^ 32 }
+        ensures rested { self.now.maturity ≤ 10000 }
+        ensures bounded { IsBounded (state_of self.now) }
+        ensures within { (block : Block) → IsBounded (with_block block (state_of self.now)) }
+        ensures totals { Totals self.now (facts self.now) }
+    {
+        Base::new(self.ids.as_slice(), self.facts.as_slice())
     }
 
     // What the block makes and does behind this chain, or the first rule that it breaks.
@@ -247,7 +265,6 @@ impl Ledger {
         ensures id { IfOk result (λ judged. judged.id ≡ block_id block.now) }
         ensures made { IfOk result (λ judged. (state_of self.now).facts ++ judged.made ≡ (done_by self.now.maturity block.now (state_of self.now)).facts) }
     {
-        let base = Base::new(self.ids.as_slice(), self.facts.as_slice());
-        judge(alloc, self.maturity, &base, block, check)
+        judge(alloc, self.maturity, &self.base(), block, check)
     }
 }

@@ -1,5 +1,5 @@
 //! The lists that grow and shrink with a chain: its blocks, their identifiers, what was made and done, and the marks in it.
-ghost use Rattle.std.specs.Prelude.{◌≡◌, ℕ, ◌-◌, ◌<◌, ◌++◌, ◌∷◌, [], List as Sequence, length, take, OnOk, OnErr};
+ghost use Rattle.std.specs.Prelude.{◌≡◌, ℕ, ◌-◌, ◌++◌, ◌∷◌, [], List as Sequence, length, take, OnOk, OnErr};
 
 use crate::fact::Fact;
 use crate::judging::Judged;
@@ -67,13 +67,11 @@ fn push_marked(
 
 /// Takes back the identifier of the last block, its mark, and what stands behind that.
 pub(crate) fn drop_block(ids: &mut List<Hash>, facts: &mut List<Fact>, marks: &mut List<u64>)
-    requires ids { 0 < length ids.old }
-    requires marks { 0 < length marks.old }
     ensures ids { ids.new ≡ take (length ids.old - 1) ids.old }
     ensures facts { (earlier : Sequence ℕ) (mark : ℕ) → marks.old ≡ earlier ++ mark ∷ [] → facts.new ≡ take mark facts.old }
     ensures marks { (earlier : Sequence ℕ) (mark : ℕ) → marks.old ≡ earlier ++ mark ∷ [] → marks.new ≡ earlier }
 {
-    ids.truncate(ids.len() - 1);
+    ids.truncate(ids.len().saturating_sub(1));
     if let Some(mark) = marks.pop() {
         facts.truncate(mark as usize);
     }

@@ -9,5 +9,5 @@ returns c =
     let since = c.args.since.now ++ c.args.later.now in
     let exact = share_exact c.args.deed.now since in
     let P : ℕ → Type 0 = λ n. n < 2 ^ 128 in
-    rw (c.saturating_mul.ensures, c.funds.ensures, c.saturating_add.ensures, c.sum_of_shares.ensures, c.sum_of_shares-2.ensures, cut_sum c.args.since.now c.args.later.now)
+    rw (c.saturating_mul.ensures, c.funds.ensures, c.saturating_add-shares.ensures, c.sum_of_shares.ensures, c.sum_of_shares-2.ensures, cut_sum c.args.since.now c.args.later.now)
     (cut_product (funds_of c.args.deed.now) (all_shares since) (subst P exact c.requires) ∙ sym exact)
