@@ -48,7 +48,7 @@ parts_law : Lawful parts
 parts_law = list_law coin_input_law &&& list_law coin_output_law &&& list_law file_contract_law &&& list_law revision_law &&& list_law storage_proof_law &&& list_law fund_input_law &&& list_law fund_output_law &&& list_law currency_law &&& list_law byte_string_law
 
 parts_fit : (tx : Transaction) → Fits tx → parts.fits (2 ^ 64 - 1) (parts_of tx)
-parts_fit tx (a, b, c, d, e, f, g, h, i, s) = (a, (b, (c, (d, (e, (f, (g, (h, i))))))))
+parts_fit tx f = (f.0, (f.1.0, (f.1.1.0, (f.1.1.1.0, (f.1.1.1.1.0, (f.1.1.1.1.1.0, (f.1.1.1.1.1.1.0, (f.1.1.1.1.1.1.1.0, f.1.1.1.1.1.1.1.1.0))))))))
 
 abbrev inputs_in : Parts → List (List ℕ)
 inputs_in p = coin_parents p.0 ++ fund_parents p.1.1.1.1.1.0

@@ -2,6 +2,7 @@ pub mod Always
 pub mod Bounds
 pub mod Claims
 pub mod Conserved
+pub mod Consumed
 pub mod Course
 pub mod Covering
 pub mod Endings
@@ -14,4 +15,5 @@ pub mod Moves
 pub mod Outcomes
 pub mod Stages
 pub mod Standing
+pub mod Told
 pub mod Totals
