@@ -8,7 +8,7 @@ use Rattle.sia_ledger.specs.declared.fact.Deed.TheVariants as deed
 use Rattle.sia_ledger.specs.Facts.{fact, is_known, last_deed, coin_in, fund_in, terms_in, fund_at, terms_at}
 use Rattle.sia_ledger.specs.Holdings.{outputs}
 use Rattle.sia_ledger.specs.Paying.{Pays, PaysOut, AllDeeds, AllPay}
-use Rattle.sia_ledger.specs.State.{State, makes, add}
+use Rattle.sia_ledger.specs.State.{State, makes, add, add_all}
 use Rattle.sia_ledger.specs.declared.fact.Deed.{Deed}
 use Rattle.sia_ledger.specs.declared.fact.Fact.{Fact}
 use Rattle.sia_types.specs.declared.coins.CoinOutput.{CoinOutput}
@@ -47,6 +47,10 @@ back s x none = by (makes x.deed && is_known s.facts x.id) none
     by : (b : Bool) → (if b then record s { twice = option_or s.twice (Some x.id) } else record s { facts = s.facts ++ x ∷ [] }).twice ≡ None → s.twice ≡ None
     by true none = absurd (or_some s.twice x.id none)
     by false none = none
+
+pub back_all : (xs : List Fact) (s : State) → (add_all s xs).twice ≡ None → s.twice ≡ None
+back_all [] s none = none
+back_all (x ∷ xs) s none = back s x (back_all xs (add s x) none)
 
 pub all-push : (P : Deed → Type 0) (facts : List Fact) (x : Fact) → AllDeeds P facts → P x.deed → AllDeeds P (facts ++ x ∷ [])
 all-push P [] x all here = (here, tt)

@@ -12,6 +12,7 @@ pub mod Keeps
 pub mod Lengths
 pub mod Missed
 pub mod Moves
+pub mod NewTexts
 pub mod Outcomes
 pub mod Stages
 pub mod Standing
