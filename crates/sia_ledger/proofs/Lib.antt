@@ -18,3 +18,4 @@ pub mod Stages
 pub mod Standing
 pub mod Told
 pub mod Totals
+pub mod TransactionTexts

@@ -24,7 +24,7 @@ use Rattle.sia_ledger.specs.State.{State, next, makes, add, add_all}
 use Rattle.sia_ledger.specs.Effects.{revised, revised_with, with_revision, settlement_facts, settled_with, settled, with_proof, claim_facts, with_fund_input}
 use Rattle.sia_ledger.specs.Paying.{AllPay}
 use Rattle.sia_ledger.specs.Texts.{IsNumbered, IsProofText, IsClaimText}
-use Rattle.sia_ledger.proofs.Always.{make, make_settlement, settle_one, claim_one, spend_all}
+use Rattle.sia_ledger.proofs.Always.{each, make, make_settlement, settle_one, claim_one, spend_all}
 use Rattle.sia_ledger.proofs.Consumed.{Consumes, Claimed, Settling, settlement_differ}
 use Rattle.sia_ledger.proofs.Covering.{IsCovered, IsFresh, IsNew, IsShort, covered_as, covered_name, covered_make, covered_settlement, last_known}
 use Rattle.sia_ledger.proofs.Held.{last-push, same-self, or_false}
@@ -209,9 +209,32 @@ covered_fund_inputs Text Side tip maturity (input ∷ inputs) s n aside fits own
 
 -- What is spent is over.
 
+spent_over : (maturity : ℕ) (s : State) (input : FundInput) → is_over (last_deed (with_fund_input maturity s input).facts input.parent) ≡ true
+unfolding add
+spent_over maturity s input = by (claim_at s.facts input.parent == 0)
+  where
+    s1 : State
+    s1 = record s { facts = s.facts ++ spent input.parent ∷ [] }
+
+    x : Fact
+    x = fact (claim_id input.parent) (deed.Coin (record { value = claim_at s.facts input.parent; address = input.claim_address }) (next s + maturity))
+
+    over1 : is_over (last_deed s1.facts input.parent) ≡ true
+    over1 = ap is_over (at_same s.facts input.parent deed.Spent)
+
+    by : (b : Bool) → is_over (last_deed (add_all s1 (if b then [] else x ∷ [])).facts input.parent) ≡ true
+    by true = over1
+    by false = let later = make (Later s1.facts) (later_stays s1.facts) s1 x refl (later_same s1.facts) in later.over input.parent over1
+
 pub over_coins : (input : CoinInput) (inputs : List CoinInput) (s : State) → some_over (add_all s (map (λ (i : CoinInput). spent i.parent) (input ∷ inputs))).facts (coin_parents (input ∷ inputs)) ≡ true
 unfolding add
 over_coins input inputs s =
     let s1 : State = record s { facts = s.facts ++ spent input.parent ∷ [] } in
     let later = spend_all (Later s1.facts) (later_stays s1.facts) inputs s1 (later_same s1.facts) in
     or_left (is_over (last_deed (add_all s1 (map (λ (i : CoinInput). spent i.parent) inputs)).facts input.parent)) (some_over (add_all s1 (map (λ (i : CoinInput). spent i.parent) inputs)).facts (coin_parents inputs)) (later.over input.parent (ap is_over (at_same s.facts input.parent deed.Spent)))
+
+pub over_funds : (maturity : ℕ) (input : FundInput) (inputs : List FundInput) (s : State) → some_over (fold (with_fund_input maturity) s (input ∷ inputs)).facts (fund_parents (input ∷ inputs)) ≡ true
+over_funds maturity input inputs s =
+    let s1 = with_fund_input maturity s input in
+    let later = each (Later s1.facts) (with_fund_input maturity) (claim_one (Later s1.facts) (later_stays s1.facts) maturity) inputs s1 (later_same s1.facts) in
+    or_left (is_over (last_deed (fold (with_fund_input maturity) s1 inputs).facts input.parent)) (some_over (fold (with_fund_input maturity) s1 inputs).facts (fund_parents inputs)) (later.over input.parent (spent_over maturity s input))
