@@ -60,7 +60,7 @@ same_inputs a b fits others same =
     let all = parts_law.no_prefix (2 ^ 64 - 1) (parts_of a) (parts_of b) [] (parts_fit a fits) (parts_fit b others) alone in
     ap inputs_in all.0
 
-front : (a b x y : List ℕ) (n : ℕ) → length a ≡ n → length b ≡ n → a ++ x ≡ b ++ y → a ≡ b
+pub front : (a b x y : List ℕ) (n : ℕ) → length a ≡ n → length b ≡ n → a ++ x ≡ b ++ y → a ≡ b
 front a b x y n a_long b_long e = sym (take_at a x n a_long) ∙ ap (take n) e ∙ take_at b y n b_long
 
 -- a text with a label, something between, and 8 bytes behind
@@ -112,7 +112,7 @@ not_57 n long e = omega (arith, long, e)
 not_both : (n : ℕ) → n ≡ 48 → n ≡ 57 → ⊥
 not_both n one other = omega (arith, one, other)
 
-made_long : (text what : List ℕ) (tx : Transaction) (i : ℕ) → IsMade what → text ≡ made_text what tx i → 96 ≤ length text
+pub made_long : (text what : List ℕ) (tx : Transaction) (i : ℕ) → IsMade what → text ≡ made_text what tx i → 96 ≤ length text
 made_long text what tx i kind is = let long = length-made_text what tx i (made_label what kind) in let e : length text ≡ length (made_text what tx i) = ap length is in omega (arith, long, e)
 
 same_claim : (f g : List ℕ) → claim_text f ≡ claim_text g → f ≡ g
@@ -139,7 +139,7 @@ same_consumed text a b (Settling contract valid i long is are) (Settling contrac
 
 -- Numbers tell numbered texts apart.
 
-not_less : (i j : ℕ) → i < j → i ≡ j → ⊥
+pub not_less : (i j : ℕ) → i < j → i ≡ j → ⊥
 not_less i j low e = omega (arith, low, e)
 
 pub made_differ : (what : List ℕ) (tx : Transaction) → IsMade what → (i j : ℕ) → i < j → j < 2 ^ 64 → made_text what tx i ≢ made_text what tx j
@@ -160,7 +160,7 @@ settlement_differ contract valid i j low fits same =
 true_false : true ≡ false → ⊥
 true_false e = cc
 
-labels_differ : (a b : List ℕ) → bytes_eq a b ≡ false → a ≡ b → ⊥
+pub labels_differ : (a b : List ℕ) → bytes_eq a b ≡ false → a ≡ b → ⊥
 labels_differ a b other same = true_false (sym (same-self a) ∙ ap (bytes_eq a) same ∙ other)
 
 pub coin_contract : (a b : Transaction) (i j : ℕ) → made_text (codes "siacoin output") a i ≢ made_text (codes "file contract") b j

@@ -1,4 +1,5 @@
 pub mod Always
+pub mod BlockTexts
 pub mod Bounds
 pub mod Claims
 pub mod Conserved
@@ -13,9 +14,12 @@ pub mod Lengths
 pub mod Missed
 pub mod Moves
 pub mod NewTexts
+pub mod OtherFaults
 pub mod Outcomes
+pub mod Right
 pub mod Stages
 pub mod Standing
 pub mod Told
 pub mod Totals
 pub mod TransactionTexts
+pub mod Twice

@@ -5,6 +5,7 @@ use Rattle.std.specs.Option.{option_or}
 use Rattle.std.specs.List.{All, list_any}
 use Rattle.std.specs.Str.{bytes_eq}
 use Rattle.std.proofs.lemmas.List.Elements.{All-head, All-tail}
+use Rattle.sia_blake.proofs.Bytes.{blake2b_256-length}
 use Rattle.sia_types.specs.declared.coins.CoinInput.{CoinInput}
 use Rattle.sia_types.specs.declared.coins.CoinOutput.{CoinOutput}
 use Rattle.sia_types.specs.declared.file_contracts.Revision.{Revision}
@@ -23,7 +24,7 @@ use Rattle.sia_ledger.specs.Facts.{fact, spent, is_known, last_deed, terms_in, t
 use Rattle.sia_ledger.specs.State.{State, next, makes, add, add_all}
 use Rattle.sia_ledger.specs.Effects.{revised, revised_with, with_revision, settlement_facts, settled_with, settled, with_proof, claim_facts, with_fund_input}
 use Rattle.sia_ledger.specs.Paying.{AllPay}
-use Rattle.sia_ledger.specs.Texts.{IsNumbered, IsProofText, IsClaimText}
+use Rattle.sia_ledger.specs.Texts.{IsNumbered, IsProofText, IsClaimText, IsMissedText}
 use Rattle.sia_ledger.proofs.Always.{each, make, make_settlement, settle_one, claim_one, spend_all}
 use Rattle.sia_ledger.proofs.Consumed.{Consumes, Claimed, Settling, settlement_differ}
 use Rattle.sia_ledger.proofs.Covering.{IsCovered, IsFresh, IsNew, IsShort, covered_as, covered_name, covered_make, covered_settlement, last_known}
@@ -89,7 +90,7 @@ outputs_short : (valid : Bool) (terms : Terms) → IsShort (deed.Formed terms) �
 outputs_short true terms short = short.0
 outputs_short false terms short = short.1
 
-pub covered_settled : (Text Side : List ℕ → Type 0) (tip : List ℕ) (from : ℕ) (valid : Bool) (s : State) (contract : List ℕ) → Besides Text Side → (s.twice ≡ None → length contract ≡ 32) → ((i : ℕ) → Text (settlement_text contract valid i)) → IsCovered Text (IsTold tip s.facts Side) s
+pub covered_settled : (Text Side : List ℕ → Type 0) (tip : List ℕ) (from : ℕ) (valid : Bool) (s : State) (contract : List ℕ) → Besides Text Side → ((terms : Terms) → terms_at s.facts contract ≡ Some terms → s.twice ≡ None → length contract ≡ 32) → ((i : ℕ) → Text (settlement_text contract valid i)) → IsCovered Text (IsTold tip s.facts Side) s
     → IsCovered Text (IsTold tip (settled from valid s contract).facts Side) (settled from valid s contract)
 unfolding add
 covered_settled Text Side tip from valid s contract aside sized own was = by (terms_at s.facts contract) refl (settle_one (Later s.facts) (later_stays s.facts) from valid s contract (later_same s.facts))
@@ -110,12 +111,12 @@ covered_settled Text Side tip from valid s contract aside sized own was = by (te
         let short = outputs_short valid terms (runs_hold IsShort (λ t same. same) s.facts contract terms was.short is) in
         let fresh : some_over s.facts (contract ∷ []) ≡ false = or_false (is_over (last_deed s.facts contract)) ∙ runs_on (last_deed s.facts contract) terms is in
         let named : IsCovered Text (λ text. T text ⊎ IsNumbered (settlement_text contract valid) 0 text) s1 = covered_as Text T (λ text. T text ⊎ IsNumbered (settlement_text contract valid) 0 text) s1 (λ none text kind. inl kind) (covered_name Text T s x (runs_known s.facts contract terms is) tt was) in
-        let made = covered_settlement Text T from contract valid (length outputs) 0 outputs s1 (omega arith) (λ none. are (length outputs) short (sized none) fresh) named in
+        let made = covered_settlement Text T from contract valid (length outputs) 0 outputs s1 (omega arith) (λ none. are (length outputs) short (sized terms is none) fresh) named in
         let over1 : is_over (last_deed s1.facts contract) ≡ true = ap is_over (at_same s.facts contract (deed.Settled valid)) in
         let later2 = make_settlement (Later s1.facts) (later_stays s1.facts) from contract valid 0 outputs s1 (later_same s1.facts) in
         let over2 : some_over s2.facts (contract ∷ []) ≡ true = or_left (is_over (last_deed s2.facts contract)) false (later2.over contract over1) in
         let moved : Later s.facts s2.facts = subst (λ (found : Option Terms). Later s.facts (settled_with from valid s contract found).facts) is later in
-        covered_as Text _ (IsTold tip s2.facts Side) s2 (λ none text kind. tell s2.facts (length outputs) moved over2 (sized (back_all (settlement_facts from contract valid 0 outputs) s1 none)) text kind) made
+        covered_as Text _ (IsTold tip s2.facts Side) s2 (λ none text kind. tell s2.facts (length outputs) moved over2 (sized terms is (back_all (settlement_facts from contract valid 0 outputs) s1 none)) text kind) made
       where
         are : (end : ℕ) → end < 2 ^ 64 → length contract ≡ 32 → some_over s.facts (contract ∷ []) ≡ false → IsNew Text T (settlement_text contract valid) end
         are end short long fresh = record {
@@ -142,7 +143,7 @@ covered_proofs Text Side tip maturity [] s aside fits own was = was
 covered_proofs Text Side tip maturity (proof ∷ proofs) s aside fits own was =
     let here = All-head ProofFits proof proofs fits in
     covered_proofs Text Side tip maturity proofs (with_proof maturity s proof) aside (All-tail ProofFits proof proofs fits) (λ text kind. own text (inr kind))
-    (covered_settled Text Side tip (next s + maturity) true s proof.parent aside (λ none. here.0.0) (λ i. own (settlement_text proof.parent true i) (inl (i, refl))) was)
+    (covered_settled Text Side tip (next s + maturity) true s proof.parent aside (λ terms runs none. here.0.0) (λ i. own (settlement_text proof.parent true i) (inl (i, refl))) was)
 
 -- Claims.
 
@@ -238,3 +239,16 @@ over_funds maturity input inputs s =
     let s1 = with_fund_input maturity s input in
     let later = each (Later s1.facts) (with_fund_input maturity) (claim_one (Later s1.facts) (later_stays s1.facts) maturity) inputs s1 (later_same s1.facts) in
     or_left (is_over (last_deed (fold (with_fund_input maturity) s1 inputs).facts input.parent)) (some_over (fold (with_fund_input maturity) s1 inputs).facts (fund_parents inputs)) (later.over input.parent (spent_over maturity s input))
+
+-- contracts that end without a storage proof
+pub covered_missed : (Text Side : List ℕ → Type 0) (tip : List ℕ) (from : ℕ) (contracts : List (List ℕ)) (s : State) → Besides Text Side → ((text : List ℕ) → IsMissedText contracts text → Text text) → IsCovered Text (IsTold tip s.facts Side) s
+    → IsCovered Text (IsTold tip (fold (settled from false) s contracts).facts Side) (fold (settled from false) s contracts)
+covered_missed Text Side tip from [] s aside own was = was
+covered_missed Text Side tip from (contract ∷ contracts) s aside own was =
+    covered_missed Text Side tip from contracts (settled from false s contract) aside (λ text kind. own text (inr kind))
+    (covered_settled Text Side tip from false s contract aside sized (λ i. own (settlement_text contract false i) (inl (i, refl))) was)
+  where
+    sized : (terms : Terms) → terms_at s.facts contract ≡ Some terms → s.twice ≡ None → length contract ≡ 32
+    sized terms runs none =
+        let made = was.known none contract (runs_known s.facts contract terms runs) in
+        sym (ap length made.makes) ∙ blake2b_256-length made.text

@@ -1,6 +1,5 @@
 -- What is known of the texts of identifiers that were made: none of them is made again by what may follow.
 use Rattle.std.proofs.Common.{◌≡◌, ℕ, ◌+◌, ◌<◌, ◌≤◌, Bool, true, false, List, [], ◌∷◌, ◌++◌, length, refl, ap, sym, ◌∙◌, subst, arith, inl, inr}
-use Rattle.std.proofs.lemmas.List.{take_at}
 use Rattle.std.specs.Prelude.{◌||◌, ◌⊎◌, ◌≢◌, take, Option, Some, None, if◌then◌else◌}
 use Rattle.std.specs.List.{list_any}
 use Rattle.std.specs.Str.{bytes_eq}
@@ -17,7 +16,7 @@ use Rattle.sia_ledger.specs.declared.fact.Deed.TheVariants as deed
 use Rattle.sia_ledger.specs.Facts.{fact, is_known, last_deed, terms_in, terms_at}
 use Rattle.sia_ledger.specs.State.{makes}
 use Rattle.sia_ledger.proofs.Always.{Stays}
-use Rattle.sia_ledger.proofs.Consumed.{Consumes, Made, Claimed, Settling, IsMade, consumes-length, same_consumed}
+use Rattle.sia_ledger.proofs.Consumed.{Consumes, Made, Claimed, Settling, IsMade, front, consumes-length, same_consumed}
 use Rattle.sia_ledger.proofs.Covering.{last_known}
 use Rattle.sia_ledger.proofs.Held.{known-push, last-push, unknown, same-self}
 use Rattle.sia_ledger.proofs.Keeps.{other_last}
@@ -52,7 +51,7 @@ true_false : true ≡ false → ⊥
 true_false e = cc
 
 -- one fact more keeps what is over over, where it is about something that isn't, or is over itself
-later_push : (facts : List Fact) (x : Fact) → (is_over (last_deed facts x.id) ≡ true → is_over (Some x.deed) ≡ true) → Later facts (facts ++ x ∷ [])
+pub later_push : (facts : List Fact) (x : Fact) → (is_over (last_deed facts x.id) ≡ true → is_over (Some x.deed) ≡ true) → Later facts (facts ++ x ∷ [])
 later_push facts x still = record {
   known = λ id is. known-push facts x id ∙ or_left (is_known facts id) (bytes_eq x.id id) is;
   over = λ id is. by id (bytes_eq x.id id) refl is;
@@ -116,7 +115,7 @@ told_later tip before after text later (OfPayout block i long is known) = OfPayo
 told_later tip before after text later (OfUse ids uses over) = OfUse ids uses (some_over-later before after later ids over)
 
 -- a text's lengths differ
-lengths : (n : ℕ) → (96 ≤ n) ⊎ (n ≡ 48) ⊎ (n ≡ 57) → (n ≡ 80) ⊎ (n ≡ 40) → ⊥
+pub lengths : (n : ℕ) → (96 ≤ n) ⊎ (n ≡ 48) ⊎ (n ≡ 57) → (n ≡ 80) ⊎ (n ≡ 40) → ⊥
 lengths n (inl a) (inl b) = omega (arith, a, b)
 lengths n (inl a) (inr b) = omega (arith, a, b)
 lengths n (inr (inl a)) (inl b) = omega (arith, a, b)
@@ -138,13 +137,13 @@ genesis_lengths n (inr (inr a)) (inr (inl b)) = omega (arith, a, b)
 genesis_lengths n (inr (inr a)) (inr (inr (inl b))) = omega (arith, a, b)
 genesis_lengths n (inr (inr a)) (inr (inr (inr b))) = omega (arith, a, b)
 
-block_long : (text : List ℕ) (block : Block) → length block.parent ≡ 32 → length block.nonce ≡ 8 → text ≡ block_text block → length text ≡ 80
+pub block_long : (text : List ℕ) (block : Block) → length block.parent ≡ 32 → length block.nonce ≡ 8 → text ≡ block_text block → length text ≡ 80
 block_long text block parent nonce is = ap length is ∙ length-block_text block parent nonce
 
-payout_long : (text block : List ℕ) (i : ℕ) → length block ≡ 32 → text ≡ payout_text block i → length text ≡ 40
+pub payout_long : (text block : List ℕ) (i : ℕ) → length block ≡ 32 → text ≡ payout_text block i → length text ≡ 40
 payout_long text block i long is = ap length is ∙ length-payout_text block i long
 
-not_both : (n : ℕ) → n ≡ 80 → n ≡ 40 → ⊥
+pub not_both : (n : ℕ) → n ≡ 80 → n ≡ 40 → ⊥
 not_both n one other = omega (arith, one, other)
 
 -- a text that consumes what isn't over is new
@@ -155,9 +154,6 @@ not_used tip facts text ids (OfGenesis long not_made) (Settling contract valid i
 not_used tip facts text ids (OfBlock block parent nonce is known older) uses fresh = lengths (length text) (consumes-length text ids uses) (inl (block_long text block parent nonce is))
 not_used tip facts text ids (OfPayout block i long is known) uses fresh = lengths (length text) (consumes-length text ids uses) (inr (payout_long text block i long is))
 not_used tip facts text ids (OfUse others used over) uses fresh = true_false (sym over ∙ ap (some_over facts) (same_consumed text others ids used uses) ∙ fresh)
-
-front : (a b x y : List ℕ) (n : ℕ) → length a ≡ n → length b ≡ n → a ++ x ≡ b ++ y → a ≡ b
-front a b x y n a_long b_long e = sym (take_at a x n a_long) ∙ ap (take n) e ∙ take_at b y n b_long
 
 same_parent : (a b : Block) → length a.parent ≡ 32 → length b.parent ≡ 32 → block_text a ≡ block_text b → a.parent ≡ b.parent
 unfolding block_text

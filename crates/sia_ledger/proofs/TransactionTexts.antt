@@ -137,10 +137,11 @@ ContractFits contract = file_contract.fits (2 ^ 64 - 1) contract
 contract_short : (contract : FileContract) → ContractFits contract → IsShort (deed.Formed (formed contract))
 contract_short contract fits = (fits.1.1.1.1.1.0.0.1, fits.1.1.1.1.1.1.0.0.1)
 
-abbrev Anything : {X : Type 0} → X → Type 0
+-- of anything nothing is asked
+abbrev pub Anything : {X : Type 0} → X → Type 0
 Anything x = Unit {0}
 
-short_by : (n m k : ℕ) → n < m → m < k → n < k
+pub short_by : (n m k : ℕ) → n < m → m < k → n < k
 short_by n m k low fits = omega (arith, low, fits)
 
 -- What is known besides, and that it is none of the texts of the transaction's siafund outputs.
