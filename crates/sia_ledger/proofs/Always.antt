@@ -39,7 +39,7 @@ pub record Stays (P : List Fact → Type 0) : Type 0 where
   pub revises : (facts : List Fact) (id : List ℕ) (terms new : Terms) → terms_at facts id ≡ Some terms → P facts → P (facts ++ fact id (deed.Revised new) ∷ [])
   pub settles : (facts : List Fact) (id : List ℕ) (valid : Bool) (terms : Terms) → terms_at facts id ≡ Some terms → P facts → P (facts ++ fact id (deed.Settled valid) ∷ [])
 
-make : (P : List Fact → Type 0) → Stays P → (s : State) (x : Fact) → makes x.deed ≡ true → P s.facts → P (add s x).facts
+pub make : (P : List Fact → Type 0) → Stays P → (s : State) (x : Fact) → makes x.deed ≡ true → P s.facts → P (add s x).facts
 unfolding add
 make P stays s x is here = by (makes x.deed) (is_known s.facts x.id) refl is
   where
@@ -49,15 +49,15 @@ make P stays s x is here = by (makes x.deed) (is_known s.facts x.id) refl is
     by false k known e = cc
 
 -- a property of states that each step keeps
-each : {X : Type 0} (P : List Fact → Type 0) (step : State → X → State) → ((s : State) (x : X) → P s.facts → P (step s x).facts) → (xs : List X) (s : State) → P s.facts → P (fold step s xs).facts
+pub each : {X : Type 0} (P : List Fact → Type 0) (step : State → X → State) → ((s : State) (x : X) → P s.facts → P (step s x).facts) → (xs : List X) (s : State) → P s.facts → P (fold step s xs).facts
 each P step one [] s here = here
 each P step one (x ∷ xs) s here = each P step one xs (step s x) (one s x here)
 
-make_each : {X : Type 0} (P : List Fact → Type 0) → Stays P → (mk : ℕ → X → Fact) → ((i : ℕ) (x : X) → makes (mk i x).deed ≡ true) → (index : ℕ) (xs : List X) (s : State) → P s.facts → P (add_all s (numbered mk index xs)).facts
+pub make_each : {X : Type 0} (P : List Fact → Type 0) → Stays P → (mk : ℕ → X → Fact) → ((i : ℕ) (x : X) → makes (mk i x).deed ≡ true) → (index : ℕ) (xs : List X) (s : State) → P s.facts → P (add_all s (numbered mk index xs)).facts
 make_each P stays mk makes_it index [] s here = here
 make_each P stays mk makes_it index (x ∷ xs) s here = make_each P stays mk makes_it (index + 1) xs (add s (mk index x)) (make P stays s (mk index x) (makes_it index x) here)
 
-make_settlement : (P : List Fact → Type 0) → Stays P → (from : ℕ) (contract : List ℕ) (valid : Bool) (index : ℕ) (outputs : List CoinOutput) (s : State) → P s.facts → P (add_all s (settlement_facts from contract valid index outputs)).facts
+pub make_settlement : (P : List Fact → Type 0) → Stays P → (from : ℕ) (contract : List ℕ) (valid : Bool) (index : ℕ) (outputs : List CoinOutput) (s : State) → P s.facts → P (add_all s (settlement_facts from contract valid index outputs)).facts
 make_settlement P stays from contract valid index [] s here = here
 make_settlement P stays from contract valid index (output ∷ outputs) s here = by (is_paying output) (λ t. make_settlement P stays from contract valid (index + 1) outputs t)
   where
@@ -68,7 +68,7 @@ make_settlement P stays from contract valid index (output ∷ outputs) s here = 
     by true later = later (add s x) (make P stays s x refl here)
     by false later = later s here
 
-settle_one : (P : List Fact → Type 0) → Stays P → (from : ℕ) (valid : Bool) (s : State) (contract : List ℕ) → P s.facts → P (settled from valid s contract).facts
+pub settle_one : (P : List Fact → Type 0) → Stays P → (from : ℕ) (valid : Bool) (s : State) (contract : List ℕ) → P s.facts → P (settled from valid s contract).facts
 unfolding add
 settle_one P stays from valid s contract here = by (terms_at s.facts contract) refl
   where
@@ -76,7 +76,7 @@ settle_one P stays from valid s contract here = by (terms_at s.facts contract) r
     by None is = here
     by (Some terms) is = make_settlement P stays from contract valid 0 (if valid then terms.valid else terms.missed) (record s { facts = s.facts ++ fact contract (deed.Settled valid) ∷ [] }) (stays.settles s.facts contract valid terms is here)
 
-revise_one : (P : List Fact → Type 0) → Stays P → (s : State) (revision : Revision) → P s.facts → P (revised_with s revision (terms_at s.facts revision.parent)).facts
+pub revise_one : (P : List Fact → Type 0) → Stays P → (s : State) (revision : Revision) → P s.facts → P (revised_with s revision (terms_at s.facts revision.parent)).facts
 unfolding add
 revise_one P stays s revision here = by (terms_at s.facts revision.parent) refl
   where
@@ -88,7 +88,7 @@ spend_one : (P : List Fact → Type 0) → Stays P → (s : State) (id : List �
 unfolding add
 spend_one P stays s id here = stays.spends s.facts id here
 
-claim_one : (P : List Fact → Type 0) → Stays P → (maturity : ℕ) (s : State) (input : FundInput) → P s.facts → P (add_all s (spent input.parent ∷ claim_facts (next s + maturity) input (claim_at s.facts input.parent))).facts
+pub claim_one : (P : List Fact → Type 0) → Stays P → (maturity : ℕ) (s : State) (input : FundInput) → P s.facts → P (add_all s (spent input.parent ∷ claim_facts (next s + maturity) input (claim_at s.facts input.parent))).facts
 claim_one P stays maturity s input here = by (claim_at s.facts input.parent == 0)
   where
     x : Fact
@@ -98,7 +98,7 @@ claim_one P stays maturity s input here = by (claim_at s.facts input.parent == 0
     by true = spend_one P stays s input.parent here
     by false = make P stays (add s (spent input.parent)) x refl (spend_one P stays s input.parent here)
 
-spend_all : (P : List Fact → Type 0) → Stays P → (inputs : List CoinInput) (s : State) → P s.facts → P (add_all s (map (λ (input : CoinInput). spent input.parent) inputs)).facts
+pub spend_all : (P : List Fact → Type 0) → Stays P → (inputs : List CoinInput) (s : State) → P s.facts → P (add_all s (map (λ (input : CoinInput). spent input.parent) inputs)).facts
 spend_all P stays [] s here = here
 spend_all P stays (input ∷ inputs) s here = spend_all P stays inputs (add s (spent input.parent)) (spend_one P stays s input.parent here)
 

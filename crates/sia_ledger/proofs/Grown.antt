@@ -41,7 +41,7 @@ accepted_less : (maturity : ℕ) (blocks : List Block) (block : Block) (s : Stat
 accepted_less maturity [] block s all = tt
 accepted_less maturity (first ∷ blocks) block s (here, all) = (here, accepted_less maturity blocks block (after_block maturity s first) all)
 
-done_new : (accepts : List ℕ → List ℕ → List ℕ → Bool) (maturity : ℕ) (s : State) (block : Block) → verdict accepts maturity s block ≡ None → (done_by maturity block s).twice ≡ None
+pub done_new : (accepts : List ℕ → List ℕ → List ℕ → Bool) (maturity : ℕ) (s : State) (block : Block) → verdict accepts maturity s block ≡ None → (done_by maturity block s).twice ≡ None
 done_new accepts maturity s block none = (block_stands accepts maturity s block none).new
 
 pub after_is : (maturity : ℕ) (s : State) (block : Block) → after_block maturity s block ≡ known (s.ids ++ block_id block ∷ []) (done_by maturity block s).facts (done_by maturity block s).twice

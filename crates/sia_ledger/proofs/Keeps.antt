@@ -7,8 +7,8 @@ use Rattle.std.specs.Cmp.Lexicographic.{same_text}
 use Rattle.sia_ledger.specs.declared.fact.Deed.TheVariants as deed
 use Rattle.sia_ledger.specs.Facts.{fact, is_known, last_deed, coin_in, fund_in, terms_in, fund_at, terms_at}
 use Rattle.sia_ledger.specs.Holdings.{outputs}
-use Rattle.sia_ledger.specs.Paying.{Pays, PaysOut, AllPay}
-use Rattle.sia_ledger.specs.State.{State, makes, add}
+use Rattle.sia_ledger.specs.Paying.{Pays, PaysOut, AllDeeds, AllPay}
+use Rattle.sia_ledger.specs.State.{State, makes, add, add_all}
 use Rattle.sia_ledger.specs.declared.fact.Deed.{Deed}
 use Rattle.sia_ledger.specs.declared.fact.Fact.{Fact}
 use Rattle.sia_types.specs.declared.coins.CoinOutput.{CoinOutput}
@@ -39,42 +39,62 @@ added s x is none = by (makes x.deed) (is_known s.facts x.id) refl refl is none
     by true false p q e none = record { facts = rw (p, q) refl; new = q; before = none }
     by false k p q e none = cc
 
-pub all_pay-push : (facts : List Fact) (x : Fact) → AllPay facts → PaysOut x.deed → AllPay (facts ++ x ∷ [])
-all_pay-push [] x pays here = (here, tt)
-all_pay-push (first ∷ facts) x pays here = (pays.0, all_pay-push facts x pays.1 here)
-
-pub all_pay-add : (s : State) (x : Fact) → AllPay s.facts → PaysOut x.deed → AllPay (add s x).facts
+-- nothing was made twice before, where nothing was afterwards
+pub back : (s : State) (x : Fact) → (add s x).twice ≡ None → s.twice ≡ None
 unfolding add
-all_pay-add s x pays here = by (makes x.deed && is_known s.facts x.id)
+back s x none = by (makes x.deed && is_known s.facts x.id) none
   where
-    by : (b : Bool) → AllPay (if b then record s { twice = option_or s.twice (Some x.id) } else record s { facts = s.facts ++ x ∷ [] }).facts
-    by true = pays
-    by false = all_pay-push s.facts x pays here
+    by : (b : Bool) → (if b then record s { twice = option_or s.twice (Some x.id) } else record s { facts = s.facts ++ x ∷ [] }).twice ≡ None → s.twice ≡ None
+    by true none = absurd (or_some s.twice x.id none)
+    by false none = none
 
-last_pays : (facts : List Fact) (id : List ℕ) (what : Deed) → AllPay facts → last_deed facts id ≡ Some what → PaysOut what
-last_pays [] id what pays e = cc
-last_pays (x ∷ facts) id what pays e = by (last_pays facts id what pays.1) (last_deed facts id) refl (bytes_eq x.id id) e
+pub back_all : (xs : List Fact) (s : State) → (add_all s xs).twice ≡ None → s.twice ≡ None
+back_all [] s none = none
+back_all (x ∷ xs) s none = back s x (back_all xs (add s x) none)
+
+pub all-push : (P : Deed → Type 0) (facts : List Fact) (x : Fact) → AllDeeds P facts → P x.deed → AllDeeds P (facts ++ x ∷ [])
+all-push P [] x all here = (here, tt)
+all-push P (first ∷ facts) x all here = (all.0, all-push P facts x all.1 here)
+
+pub all-add : (P : Deed → Type 0) (s : State) (x : Fact) → AllDeeds P s.facts → P x.deed → AllDeeds P (add s x).facts
+unfolding add
+all-add P s x all here = by (makes x.deed && is_known s.facts x.id)
   where
-    inside : (w : Deed) → Some w ≡ Some what → PaysOut w → PaysOut what
-    inside w same p = let is : w ≡ what = cc in subst PaysOut is p
+    by : (b : Bool) → AllDeeds P (if b then record s { twice = option_or s.twice (Some x.id) } else record s { facts = s.facts ++ x ∷ [] }).facts
+    by true = all
+    by false = all-push P s.facts x all here
 
-    by : (last_deed facts id ≡ Some what → PaysOut what) → (found : Option Deed) → last_deed facts id ≡ found → (b : Bool) → option_or found (if b then Some x.deed else None) ≡ Some what → PaysOut what
+last_holds : (P : Deed → Type 0) (facts : List Fact) (id : List ℕ) (what : Deed) → AllDeeds P facts → last_deed facts id ≡ Some what → P what
+last_holds P [] id what all e = cc
+last_holds P (x ∷ facts) id what all e = by (last_holds P facts id what all.1) (last_deed facts id) refl (bytes_eq x.id id) e
+  where
+    inside : (w : Deed) → Some w ≡ Some what → P w → P what
+    inside w same p = let is : w ≡ what = cc in subst P is p
+
+    by : (last_deed facts id ≡ Some what → P what) → (found : Option Deed) → last_deed facts id ≡ found → (b : Bool) → option_or found (if b then Some x.deed else None) ≡ Some what → P what
     by later (Some w) is b same = later (is ∙ same)
-    by later None is true same = inside x.deed same pays.0
+    by later None is true same = inside x.deed same all.0
     by later None is false same = cc
 
-pub runs_pay : (facts : List Fact) (id : List ℕ) (terms : Terms) → AllPay facts → terms_at facts id ≡ Some terms → Pays terms
-runs_pay facts id terms pays runs = by (last_deed facts id) refl runs
+-- what holds of each formation and revision holds of a running contract
+pub runs_hold : (P : Deed → Type 0) → ((terms : Terms) → P (deed.Revised terms) → P (deed.Formed terms)) → (facts : List Fact) (id : List ℕ) (terms : Terms) → AllDeeds P facts → terms_at facts id ≡ Some terms → P (deed.Formed terms)
+runs_hold P alike facts id terms all runs = by (last_deed facts id) refl runs
   where
-    by : (found : Option Deed) → last_deed facts id ≡ found → terms_in found ≡ Some terms → Pays terms
+    by : (found : Option Deed) → last_deed facts id ≡ found → terms_in found ≡ Some terms → P (deed.Formed terms)
     by None is e = cc
     by (Some deed.Block) is e = cc
     by (Some (deed.Coin output from)) is e = cc
     by (Some (deed.Fund output)) is e = cc
-    by (Some (deed.Formed t)) is e = let same : t ≡ terms = cc in subst Pays same (last_pays facts id (deed.Formed t) pays is)
+    by (Some (deed.Formed t)) is e = let same : t ≡ terms = cc in subst (λ (u : Terms). P (deed.Formed u)) same (last_holds P facts id (deed.Formed t) all is)
     by (Some deed.Spent) is e = cc
-    by (Some (deed.Revised t)) is e = let same : t ≡ terms = cc in subst Pays same (last_pays facts id (deed.Revised t) pays is)
+    by (Some (deed.Revised t)) is e = let same : t ≡ terms = cc in subst (λ (u : Terms). P (deed.Formed u)) same (alike t (last_holds P facts id (deed.Revised t) all is))
     by (Some (deed.Settled valid)) is e = cc
+
+pub all_pay-add : (s : State) (x : Fact) → AllPay s.facts → PaysOut x.deed → AllPay (add s x).facts
+all_pay-add s x pays here = all-add PaysOut s x pays here
+
+pub runs_pay : (facts : List Fact) (id : List ℕ) (terms : Terms) → AllPay facts → terms_at facts id ≡ Some terms → Pays terms
+runs_pay facts id terms pays runs = runs_hold PaysOut (λ t same. same) facts id terms pays runs
 
 -- live siafund outputs stay live, and running contracts stay running with their payouts
 abbrev pub KeepsFunds : List Fact → List Fact → Type 0

@@ -1,7 +1,9 @@
 pub mod Always
+pub mod BlockTexts
 pub mod Bounds
 pub mod Claims
 pub mod Conserved
+pub mod Consumed
 pub mod Course
 pub mod Covering
 pub mod Endings
@@ -11,9 +13,13 @@ pub mod Keeps
 pub mod Lengths
 pub mod Missed
 pub mod Moves
+pub mod NewTexts
+pub mod OtherFaults
 pub mod Outcomes
+pub mod Right
 pub mod Stages
 pub mod Standing
+pub mod Told
 pub mod Totals
 pub mod LastDeeds
 pub mod NeedFaults
@@ -22,3 +28,5 @@ pub mod Shares
 pub mod Beginning
 pub mod Ordered
 pub mod LastId
+pub mod TransactionTexts
+pub mod Twice

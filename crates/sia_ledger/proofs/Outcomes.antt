@@ -101,7 +101,7 @@ eqb-refl n = by (n == n) refl
 
 -- Within a block the identifiers of blocks stay.
 
-add_ids : (s : State) (x : Fact) → (add s x).ids ≡ s.ids
+pub add_ids : (s : State) (x : Fact) → (add s x).ids ≡ s.ids
 unfolding add
 add_ids s x = by (makes x.deed && is_known s.facts x.id)
   where
@@ -127,7 +127,7 @@ revised_ids s revision = by (terms_at s.facts revision.parent)
     by None = refl
     by (Some terms) = add_ids s (fact revision.parent (deed.Revised (revised terms revision)))
 
-transaction_ids : (maturity : ℕ) (s : State) (tx : Transaction) → (after_transaction maturity s tx).ids ≡ s.ids
+pub transaction_ids : (maturity : ℕ) (s : State) (tx : Transaction) → (after_transaction maturity s tx).ids ≡ s.ids
 unfolding after_transaction with_coin_inputs with_coin_outputs with_contracts with_revisions with_proofs with_fund_inputs with_fund_outputs
 transaction_ids maturity s tx =
     let s1 = with_coin_inputs tx s in
@@ -162,7 +162,7 @@ course_transactions accepts maturity t (tx ∷ txs) s fees sum low done proved i
     let rest = course_transactions accepts maturity (t + 1) txs s1 (fees + fees_of tx) sum low done (proved || proves id tx.proofs) id at1 (transaction_most accepts maturity s t tx fees sum was both.0) both.1 here in
     subst (λ p. CourseAt low done p id (fold (after_transaction maturity) s1 txs).facts) (or_assoc proved (proves id tx.proofs) (proves_in id txs)) rest
 
-course_weaker : (low done more : ℕ) (proved : Bool) (final : Option Terms) (found : Option Deed) → done ≤ more → Course low done proved final found → Course low more proved final found
+pub course_weaker : (low done more : ℕ) (proved : Bool) (final : Option Terms) (found : Option Deed) → done ≤ more → Course low done proved final found → Course low more proved final found
 course_weaker low done more proved final None le c = c
 course_weaker low done more proved final (Some deed.Block) le c = c
 course_weaker low done more proved final (Some (deed.Coin output from)) le c = c
@@ -235,7 +235,7 @@ course_blocks maturity (block ∷ blocks) s height proved id at was ((accepts, a
     subst (λ h. CourseAt (h + 1) h (proved || is_proved id (block ∷ blocks)) id end.facts) count
     (subst (λ p. CourseAt (height + 1 + length blocks + 1) (height + 1 + length blocks) p id end.facts) (or_assoc proved (proves_in id block.transactions) (is_proved id blocks)) later)
 
-course_genesis : (funds : List FundOutput) (id : List ℕ) → CourseAt 1 0 false id (genesis_state funds).facts
+pub course_genesis : (funds : List FundOutput) (id : List ℕ) → CourseAt 1 0 false id (genesis_state funds).facts
 unfolding genesis_state
 course_genesis funds id =
     let empty : State = record { ids = genesis_id funds ∷ []; facts = []; twice = None } in

@@ -19,10 +19,14 @@ PaysOut (deed.Formed terms) = Pays terms
 PaysOut (deed.Revised terms) = Pays terms
 PaysOut other = Unit {0}
 
+-- so it is with each deed
+abbrev pub AllDeeds : (Deed → Type 0) → List Fact → Type 0
+AllDeeds P [] = Unit {0}
+AllDeeds P (x ∷ facts) = P x.deed × AllDeeds P facts
+
 -- each contract pays what it holds
 abbrev pub AllPay : List Fact → Type 0
-AllPay [] = Unit {0}
-AllPay (x ∷ facts) = PaysOut x.deed × AllPay facts
+AllPay facts = AllDeeds PaysOut facts
 
 -- live siacoin outputs, escrow and claims together
 abbrev pub total : List Fact → ℕ

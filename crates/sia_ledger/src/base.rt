@@ -63,6 +63,7 @@ impl<'a> Base<'a> {
 }
 
 /// The last identifier.
+#[tactic(auto, using(crate::proofs::LastId::last_at))]
 pub(crate) fn tip_of(ids: &[Hash]) -> Hash
     requires { 0 < length ids.now }
     ensures { result ≡ last_id ids.now }

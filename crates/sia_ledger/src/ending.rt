@@ -26,6 +26,7 @@ pub(crate) fn ending_of(
 }
 
 // Puts those among some facts to those among later ones.
+#[tactic(auto, using(crate::proofs::Ordered::ending_from))]
 fn put_ending(
     ids: &mut Vec<Hash>,
     height: u64,
@@ -44,6 +45,7 @@ fn put_ending(
 }
 
 // Puts one fact to those among the facts behind it.
+#[tactic(auto, using(crate::proofs::Ordered::ending_here, crate::proofs::Ordered::ending_known, crate::proofs::Ordered::ending_other))]
 fn put_one(
     ids: &mut Vec<Hash>,
     height: u64,
