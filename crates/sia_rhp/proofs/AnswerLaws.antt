@@ -20,7 +20,7 @@ use Rattle.sia_rhp.specs.declared.answer_bodies.WriteAnswer.{WriteAnswer}
 use Rattle.sia_rhp.specs.declared.answer_bodies.ReadAnswer.{ReadAnswer}
 use Rattle.sia_rhp.specs.declared.answer_bodies.RootsAnswer.{RootsAnswer}
 use Rattle.sia_rhp.specs.AnswerBodies.{lock_answer_law, write_answer_law, read_answer_law, roots_answer_law}
-use Rattle.sia_rhp.specs.Answers.{is_error, error_code, unanswered, answer_behind, answer_of, answer_to, label_of_answer, spelled_answer, settings_parts, form_parts, form_sign_parts, lock_parts, unlock_parts, write_parts, write_sign_parts, read_parts, roots_parts, renew_parts, renew_sign_parts}
+use Rattle.sia_rhp.specs.Answers.{is_error, error_code, unanswered, answer_behind, answer_of, answer_to, label_of_answer, spelled_answer, settings_answered, form_answered, form_sign_answered, lock_answered, unlock_answered, write_answered, write_sign_answered, read_answered, roots_answered, renew_answered, renew_sign_answered}
 
 -- what fits behind byte 0 is no error, and has its label
 is_for : (l : Label) (limit : ℕ) (a : Answer) → (answer_behind l).fits limit a → (is_error a ≡ false) × (label_of_answer a ≡ l)
@@ -37,47 +37,47 @@ is_for label.Renew limit (answers.Renew inputs outputs) fits = (refl, refl)
 is_for label.RenewSign limit (answers.RenewSign body) fits = (refl, refl)
 is_for _ limit _ fits = absurd fits
 
-settings_again : (a : Answer) (p : Settings) → settings_parts a ≡ Some p → answers.Settings p ≡ a
+settings_again : (a : Answer) (p : Settings) → settings_answered a ≡ Some p → answers.Settings p ≡ a
 settings_again (answers.Settings body) p is = (cc)
 settings_again _ p is = (cc)
 
-form_again : (a : Answer) (p : List CoinInput × List CoinOutput) → form_parts a ≡ Some p → answers.Form p.0 p.1 ≡ a
+form_again : (a : Answer) (p : List CoinInput × List CoinOutput) → form_answered a ≡ Some p → answers.Form p.0 p.1 ≡ a
 form_again (answers.Form inputs outputs) p is = let same : (inputs, outputs) ≡ p = cc in ap (λ (q : List CoinInput × List CoinOutput). answers.Form q.0 q.1) (sym same)
 form_again _ p is = (cc)
 
-form_sign_again : (a : Answer) (p : List Signature) → form_sign_parts a ≡ Some p → answers.FormSign p ≡ a
+form_sign_again : (a : Answer) (p : List Signature) → form_sign_answered a ≡ Some p → answers.FormSign p ≡ a
 form_sign_again (answers.FormSign body) p is = (cc)
 form_sign_again _ p is = (cc)
 
-lock_again : (a : Answer) (p : LockAnswer) → lock_parts a ≡ Some p → answers.Lock p ≡ a
+lock_again : (a : Answer) (p : LockAnswer) → lock_answered a ≡ Some p → answers.Lock p ≡ a
 lock_again (answers.Lock body) p is = (cc)
 lock_again _ p is = (cc)
 
-unlock_again : (a : Answer) (p : Unit {0}) → unlock_parts a ≡ Some p → answers.Unlock ≡ a
+unlock_again : (a : Answer) (p : Unit {0}) → unlock_answered a ≡ Some p → answers.Unlock ≡ a
 unlock_again answers.Unlock p is = refl
 unlock_again _ p is = (cc)
 
-write_again : (a : Answer) (p : WriteAnswer) → write_parts a ≡ Some p → answers.Write p ≡ a
+write_again : (a : Answer) (p : WriteAnswer) → write_answered a ≡ Some p → answers.Write p ≡ a
 write_again (answers.Write body) p is = (cc)
 write_again _ p is = (cc)
 
-write_sign_again : (a : Answer) (p : List ℕ) → write_sign_parts a ≡ Some p → answers.WriteSign p ≡ a
+write_sign_again : (a : Answer) (p : List ℕ) → write_sign_answered a ≡ Some p → answers.WriteSign p ≡ a
 write_sign_again (answers.WriteSign body) p is = (cc)
 write_sign_again _ p is = (cc)
 
-read_again : (a : Answer) (p : ReadAnswer) → read_parts a ≡ Some p → answers.Read p ≡ a
+read_again : (a : Answer) (p : ReadAnswer) → read_answered a ≡ Some p → answers.Read p ≡ a
 read_again (answers.Read body) p is = (cc)
 read_again _ p is = (cc)
 
-roots_again : (a : Answer) (p : RootsAnswer) → roots_parts a ≡ Some p → answers.Roots p ≡ a
+roots_again : (a : Answer) (p : RootsAnswer) → roots_answered a ≡ Some p → answers.Roots p ≡ a
 roots_again (answers.Roots body) p is = (cc)
 roots_again _ p is = (cc)
 
-renew_again : (a : Answer) (p : List CoinInput × List CoinOutput) → renew_parts a ≡ Some p → answers.Renew p.0 p.1 ≡ a
+renew_again : (a : Answer) (p : List CoinInput × List CoinOutput) → renew_answered a ≡ Some p → answers.Renew p.0 p.1 ≡ a
 renew_again (answers.Renew inputs outputs) p is = let same : (inputs, outputs) ≡ p = cc in ap (λ (q : List CoinInput × List CoinOutput). answers.Renew q.0 q.1) (sym same)
 renew_again _ p is = (cc)
 
-renew_sign_again : (a : Answer) (p : List Signature) → renew_sign_parts a ≡ Some p → answers.RenewSign p ≡ a
+renew_sign_again : (a : Answer) (p : List Signature) → renew_sign_answered a ≡ Some p → answers.RenewSign p ≡ a
 renew_sign_again (answers.RenewSign body) p is = (cc)
 renew_sign_again _ p is = (cc)
 
@@ -90,17 +90,17 @@ unanswered_law : Lawful unanswered
 unanswered_law = codec unanswered.fits unanswered.spelled unanswered.reading (λ from bytes. tt) (λ at limit value rest fits. absurd fits)
 
 behind_law : (l : Label) → Lawful (answer_behind l)
-behind_law label.Settings = variant_law (λ body. answers.Settings body) settings_parts (λ p. refl) settings_again settings_law
-behind_law label.FormContract = variant_law (λ body. answers.Form body.0 body.1) form_parts (λ p. refl) form_again (list_law coin_input_law &&& list_law coin_output_law)
-behind_law label.FormSign = variant_law (λ body. answers.FormSign body) form_sign_parts (λ p. refl) form_sign_again (list_law signature_law)
-behind_law label.Lock = variant_law (λ body. answers.Lock body) lock_parts (λ p. refl) lock_again lock_answer_law
-behind_law label.Unlock = variant_law (λ body. answers.Unlock) unlock_parts (λ p. refl) unlock_again nothing_law
-behind_law label.Write = variant_law (λ body. answers.Write body) write_parts (λ p. refl) write_again write_answer_law
-behind_law label.WriteSign = variant_law (λ body. answers.WriteSign body) write_sign_parts (λ p. refl) write_sign_again byte_string_law
-behind_law label.Read = variant_law (λ body. answers.Read body) read_parts (λ p. refl) read_again read_answer_law
-behind_law label.Roots = variant_law (λ body. answers.Roots body) roots_parts (λ p. refl) roots_again roots_answer_law
-behind_law label.Renew = variant_law (λ body. answers.Renew body.0 body.1) renew_parts (λ p. refl) renew_again (list_law coin_input_law &&& list_law coin_output_law)
-behind_law label.RenewSign = variant_law (λ body. answers.RenewSign body) renew_sign_parts (λ p. refl) renew_sign_again (list_law signature_law)
+behind_law label.Settings = variant_law (λ body. answers.Settings body) settings_answered (λ p. refl) settings_again settings_law
+behind_law label.FormContract = variant_law (λ body. answers.Form body.0 body.1) form_answered (λ p. refl) form_again (list_law coin_input_law &&& list_law coin_output_law)
+behind_law label.FormSign = variant_law (λ body. answers.FormSign body) form_sign_answered (λ p. refl) form_sign_again (list_law signature_law)
+behind_law label.Lock = variant_law (λ body. answers.Lock body) lock_answered (λ p. refl) lock_again lock_answer_law
+behind_law label.Unlock = variant_law (λ body. answers.Unlock) unlock_answered (λ p. refl) unlock_again nothing_law
+behind_law label.Write = variant_law (λ body. answers.Write body) write_answered (λ p. refl) write_again write_answer_law
+behind_law label.WriteSign = variant_law (λ body. answers.WriteSign body) write_sign_answered (λ p. refl) write_sign_again byte_string_law
+behind_law label.Read = variant_law (λ body. answers.Read body) read_answered (λ p. refl) read_again read_answer_law
+behind_law label.Roots = variant_law (λ body. answers.Roots body) roots_answered (λ p. refl) roots_again roots_answer_law
+behind_law label.Renew = variant_law (λ body. answers.Renew body.0 body.1) renew_answered (λ p. refl) renew_again (list_law coin_input_law &&& list_law coin_output_law)
+behind_law label.RenewSign = variant_law (λ body. answers.RenewSign body) renew_sign_answered (λ p. refl) renew_sign_again (list_law signature_law)
 behind_law label.LoopExit = unanswered_law
 
 told_so : (l : Label) (b : Bool) (limit : ℕ) (a : Answer) → (answer_of l b).fits limit a → is_error a ≡ b

@@ -6,7 +6,7 @@ use Rattle.std.proofs.lemmas.Nat.{from_le_bytes-to_le_bytes_8}
 use Rattle.std.specs.Int.{w64, from_le_bytes, to_le_bytes}
 use Rattle.sia_encoding.specs.Spelling.{spelled_u64, spelled_bytes}
 use Rattle.sia_rhp.specs.declared.frames.FrameFault.{FrameFault}
-use Rattle.sia_rhp.specs.Frames.{frame, length_at, body_at, frame_at, behind_length, bodies_from, frames_in, frames, Stream}
+use Rattle.sia_rhp.specs.Frames.{frame_of, length_at, body_at, frame_at, behind_length, bodies_from, frames_in, frames_of, FrameStream}
 use Rattle.sia_rhp.proofs.FrameLemmas.{chosen, chosen_second, length_has}
 
 -- so does a body
@@ -51,11 +51,11 @@ as_many limit (suc n) (suc m) room bytes first second = step (λ room bytes one 
     step again (Ok None) is = refl
     step again (Ok (Some body)) is =
         let fewer : length (drop (8 + length body) bytes) + 8 ≤ length bytes = omega (arith, length-drop (8 + length body) bytes, (frame_has limit room bytes body is).0) in
-        ap (λ (others : Stream). let made : Stream = record { bodies = body ∷ others.bodies; last = others.last } in made) (again (room - (8 + length body)) (drop (8 + length body) bytes) (omega (arith, fewer, first)) (omega (arith, fewer, second)))
+        ap (λ (others : FrameStream). let made : FrameStream = record { bodies = body ∷ others.bodies; last = others.last } in made) (again (room - (8 + length body)) (drop (8 + length body) bytes) (omega (arith, fewer, first)) (omega (arith, fewer, second)))
 
 -- the frame in front, and those behind it
-pub frames_follow : (limit room : ℕ) (bytes : List ℕ) → frames limit room bytes ≡ bodies_from (frames limit) room bytes (frame_at limit room bytes)
-unfolding frames frames_in
+pub frames_follow : (limit room : ℕ) (bytes : List ℕ) → frames_of limit room bytes ≡ bodies_from (frames_of limit) room bytes (frame_at limit room bytes)
+unfolding frames_of frames_in
 frames_follow limit room bytes = here (frame_at limit room bytes) refl
   where
     here : (r : Result (Option (List ℕ)) FrameFault) → frame_at limit room bytes ≡ r → bodies_from (frames_in (length bytes) limit) room bytes r ≡ bodies_from (λ room bytes. frames_in (suc (length bytes)) limit room bytes) room bytes r
@@ -63,27 +63,27 @@ frames_follow limit room bytes = here (frame_at limit room bytes) refl
     here (Ok None) is = refl
     here (Ok (Some body)) is =
         let fewer : length (drop (8 + length body) bytes) + 8 ≤ length bytes = omega (arith, length-drop (8 + length body) bytes, (frame_has limit room bytes body is).0) in
-        ap (λ (others : Stream). let made : Stream = record { bodies = body ∷ others.bodies; last = others.last } in made) (as_many limit (length bytes) (suc (length (drop (8 + length body) bytes))) (room - (8 + length body)) (drop (8 + length body) bytes) (omega (arith, fewer)) (omega arith))
+        ap (λ (others : FrameStream). let made : FrameStream = record { bodies = body ∷ others.bodies; last = others.last } in made) (as_many limit (length bytes) (suc (length (drop (8 + length body) bytes))) (room - (8 + length body)) (drop (8 + length body) bytes) (omega (arith, fewer)) (omega arith))
 
 -- the length of a frame is read
-length_read : (room : ℕ) (body rest : List ℕ) → 8 ≤ room → length body < 2 ^ 64 → length_at room (frame body ++ rest) ≡ Ok (Some (length body))
+length_read : (room : ℕ) (body rest : List ℕ) → 8 ≤ room → length body < 2 ^ 64 → length_at room (frame_of body ++ rest) ≡ Ok (Some (length body))
 unfolding length_at spelled_bytes spelled_u64
 length_read room body rest many small =
     let text = to_le_bytes w64 (length body) in
     let eight : length text ≡ 8 = refl in
-    let cut : frame body ++ rest ≡ text ++ (body ++ rest) = append_assoc text body rest in
-    let front : take 8 (frame body ++ rest) ≡ text = ap (take 8) cut ∙ take_at text (body ++ rest) 8 eight in
-    let whole : min 8 room ≤ length (frame body ++ rest) = omega (arith, ap length cut, length-append text (body ++ rest), eight) in
+    let cut : frame_of body ++ rest ≡ text ++ (body ++ rest) = append_assoc text body rest in
+    let front : take 8 (frame_of body ++ rest) ≡ text = ap (take 8) cut ∙ take_at text (body ++ rest) 8 eight in
+    let whole : min 8 room ≤ length (frame_of body ++ rest) = omega (arith, ap length cut, length-append text (body ++ rest), eight) in
     chosen_second _ _ _ (le-ltb _ _ whole) ∙ chosen_second _ _ _ (le-ltb _ _ many) ∙ ap (λ xs. Ok (Some (from_le_bytes w64 xs))) front ∙ ap (λ n. Ok (Some n)) (from_le_bytes-to_le_bytes_8 (length body) small)
 
 -- its body too
-pub frames_are_read : (limit room : ℕ) (body rest : List ℕ) → length body ≤ limit → 8 + length body ≤ room → length body < 2 ^ 64 → frame_at limit room (frame body ++ rest) ≡ Ok (Some body)
+pub frames_are_read : (limit room : ℕ) (body rest : List ℕ) → length body ≤ limit → 8 + length body ≤ room → length body < 2 ^ 64 → frame_at limit room (frame_of body ++ rest) ≡ Ok (Some body)
 unfolding body_at spelled_bytes spelled_u64
 frames_are_read limit room body rest within fits small =
     let many : 8 ≤ room = omega (arith, fits) in
     let text = to_le_bytes w64 (length body) in
     let eight : length text ≡ 8 = refl in
-    let behind : drop 8 (frame body ++ rest) ≡ body ++ rest = ap (drop 8) (append_assoc text body rest) ∙ drop_at text (body ++ rest) 8 eight in
+    let behind : drop 8 (frame_of body ++ rest) ≡ body ++ rest = ap (drop 8) (append_assoc text body rest) ∙ drop_at text (body ++ rest) 8 eight in
     let size : length (body ++ rest) ≡ length body + length rest = length-append body rest in
     let whole : min (length body) (room - 8) ≤ length (body ++ rest) = omega (arith, size) in
     let room_for : length body ≤ room - 8 = omega (arith, fits) in

@@ -8,7 +8,7 @@ use Rattle.sia_edge.specs.Filled.{FilledFrom}
 use Rattle.sia_rhp.specs.declared.frames.FrameFault.{FrameFault}
 use Rattle.sia_rhp.specs.declared.frames.FrameFault.TheVariants as fault
 use Rattle.sia_rhp.specs.Frames.{length_at, body_at, frame_at}
-use Rattle.sia_rhp.specs.Taking.{LosesSome, Takes}
+use Rattle.sia_rhp.specs.Taking.{LosesSome, TakesOff}
 
 -- choices whose test is known
 pub chosen_first : {A : Type 0} (b : Bool) (x y : A) → b ≡ true → (if b then x else y) ≡ x
@@ -34,7 +34,7 @@ filled_front bytes buffer left count whole filled =
 -- a length
 
 pub length_none : (room count : ℕ) (old new : Option (List ℕ)) (buffer : List ℕ) → length buffer ≡ min room 8 → count ≡ 0 → 0 < length buffer → IfSome old (λ bytes. FilledFrom bytes new count buffer)
-    → IfSome old (λ bytes. Takes (λ (n : ℕ). 8) room (Ok None) (length_at room bytes) bytes new)
+    → IfSome old (λ bytes. TakesOff (λ (n : ℕ). 8) room (Ok None) (length_at room bytes) bytes new)
 unfolding length_at
 length_none room count None new buffer size none some filled = tt
 length_none room count (Some bytes) new buffer size none some filled =
@@ -43,7 +43,7 @@ length_none room count (Some bytes) new buffer size none some filled =
     (chosen_first _ _ _ (lt-ltb _ _ short) ∙ chosen_first _ _ _ (eq-eqb _ _ empty), moved bytes buffer new count 0 none filled)
 
 pub length_short : (room count : ℕ) (old new : Option (List ℕ)) (buffer : List ℕ) → length buffer ≡ min room 8 → (count ≡ 0 → ⊥) → count < length buffer → IfSome old (λ bytes. FilledFrom bytes new count buffer)
-    → IfSome old (λ bytes. Takes (λ (n : ℕ). 8) room (Err fault.Short) (length_at room bytes) bytes new)
+    → IfSome old (λ bytes. TakesOff (λ (n : ℕ). 8) room (Err fault.Short) (length_at room bytes) bytes new)
 unfolding length_at
 length_short room count None new buffer size some within filled = tt
 length_short room count (Some bytes) new buffer size some within filled =
@@ -52,7 +52,7 @@ length_short room count (Some bytes) new buffer size some within filled =
     (chosen_first _ _ _ (lt-ltb _ _ short) ∙ chosen_second _ _ _ (ne_eqb (length bytes) 0 (λ is. some (sym all ∙ is))), ended bytes buffer new count (omega (arith, all)) filled)
 
 pub length_long : (room count : ℕ) (old new : Option (List ℕ)) (buffer : List ℕ) → length buffer ≡ min room 8 → room < 8 → count ≡ length buffer → IfSome old (λ bytes. FilledFrom bytes new count buffer)
-    → IfSome old (λ bytes. Takes (λ (n : ℕ). 8) room (Err fault.Long) (length_at room bytes) bytes new)
+    → IfSome old (λ bytes. TakesOff (λ (n : ℕ). 8) room (Err fault.Long) (length_at room bytes) bytes new)
 unfolding length_at
 length_long room count None new buffer size few whole filled = tt
 length_long room count (Some bytes) new buffer size few whole filled =
@@ -61,7 +61,7 @@ length_long room count (Some bytes) new buffer size few whole filled =
     (chosen_second _ _ _ (le-ltb _ _ enough) ∙ chosen_first _ _ _ (lt-ltb _ _ few), moved bytes buffer new count room all filled)
 
 pub length_whole : (room count n : ℕ) (old new : Option (List ℕ)) (buffer : List ℕ) → length buffer ≡ 8 → 8 ≤ room → count ≡ 8 → n ≡ from_le_bytes w64 buffer → IfSome old (λ bytes. FilledFrom bytes new count buffer)
-    → IfSome old (λ bytes. Takes (λ (n : ℕ). 8) room (Ok (Some n)) (length_at room bytes) bytes new)
+    → IfSome old (λ bytes. TakesOff (λ (n : ℕ). 8) room (Ok (Some n)) (length_at room bytes) bytes new)
 unfolding length_at
 length_whole room count n None new buffer size many whole is filled = tt
 length_whole room count n (Some bytes) new buffer size many whole is filled =
@@ -73,7 +73,7 @@ length_whole room count n (Some bytes) new buffer size many whole is filled =
 -- a body
 
 pub body_short : (size room count : ℕ) (old new : Option (List ℕ)) (buffer : List ℕ) → length buffer ≡ min size room → count < min size room → IfSome old (λ bytes. FilledFrom bytes new count buffer)
-    → IfSome old (λ bytes. Takes (λ (body : List ℕ). length body) room (Err fault.Short) (body_at size room bytes) bytes new)
+    → IfSome old (λ bytes. TakesOff (λ (body : List ℕ). length body) room (Err fault.Short) (body_at size room bytes) bytes new)
 unfolding body_at
 body_short size room count None new buffer is within filled = tt
 body_short size room count (Some bytes) new buffer is within filled =
@@ -81,7 +81,7 @@ body_short size room count (Some bytes) new buffer is within filled =
     (chosen_first _ _ _ (lt-ltb _ _ short), ended bytes buffer new count (omega (arith, filled.count_is, within, is)) filled)
 
 pub body_long : (size room count : ℕ) (old new : Option (List ℕ)) (buffer : List ℕ) → length buffer ≡ min size room → min size room ≤ count → room < size → IfSome old (λ bytes. FilledFrom bytes new count buffer)
-    → IfSome old (λ bytes. Takes (λ (body : List ℕ). length body) room (Err fault.Long) (body_at size room bytes) bytes new)
+    → IfSome old (λ bytes. TakesOff (λ (body : List ℕ). length body) room (Err fault.Long) (body_at size room bytes) bytes new)
 unfolding body_at
 body_long size room count None new buffer is whole few filled = tt
 body_long size room count (Some bytes) new buffer is whole few filled =
@@ -90,7 +90,7 @@ body_long size room count (Some bytes) new buffer is whole few filled =
     (chosen_second _ _ _ (le-ltb _ _ enough) ∙ chosen_first _ _ _ (lt-ltb _ _ few), moved bytes buffer new count room all filled)
 
 pub body_whole : (size room count : ℕ) (old new : Option (List ℕ)) (buffer : List ℕ) → length buffer ≡ min size room → min size room ≤ count → size ≤ room → IfSome old (λ bytes. FilledFrom bytes new count buffer)
-    → IfSome old (λ bytes. Takes (λ (body : List ℕ). length body) room (Ok (Some buffer)) (body_at size room bytes) bytes new)
+    → IfSome old (λ bytes. TakesOff (λ (body : List ℕ). length body) room (Ok (Some buffer)) (body_at size room bytes) bytes new)
 unfolding body_at
 body_whole size room count None new buffer is whole many filled = tt
 body_whole size room count (Some bytes) new buffer is whole many filled =
@@ -106,8 +106,8 @@ behind_again : (bytes : List ℕ) (left : Option (List ℕ)) (n : ℕ) → Loses
 behind_again bytes left n lost =
     (take n bytes ++ lost.0, lost.1, sym (take-append-drop n bytes) ∙ ap (λ xs. take n bytes ++ xs) lost.2 ∙ sym (append_assoc (take n bytes) lost.0 lost.1), lost.3)
 
-pub frame_too_long : (limit room n : ℕ) (old new : Option (List ℕ)) → limit < n → IfSome old (λ bytes. Takes (λ (n : ℕ). 8) room (Ok (Some n)) (length_at room bytes) bytes new)
-    → IfSome old (λ bytes. Takes (λ (body : List ℕ). 8 + length body) room (Err (fault.TooLong n)) (frame_at limit room bytes) bytes new)
+pub frame_too_long : (limit room n : ℕ) (old new : Option (List ℕ)) → limit < n → IfSome old (λ bytes. TakesOff (λ (n : ℕ). 8) room (Ok (Some n)) (length_at room bytes) bytes new)
+    → IfSome old (λ bytes. TakesOff (λ (body : List ℕ). 8 + length body) room (Err (fault.TooLong n)) (frame_at limit room bytes) bytes new)
 frame_too_long limit room n None new above taken = tt
 frame_too_long limit room n (Some bytes) new above taken =
     (rw taken.0 (chosen_first _ _ _ (lt-ltb _ _ above)), taken.1)
@@ -128,8 +128,8 @@ length_has room bytes n is = elim (chosen (nat_lt (length bytes) (min 8 room)) _
   ]
 ]
 
-frame_of : (limit room n : ℕ) (bytes : List ℕ) (r : Result (Option (List ℕ)) FrameFault) → n ≤ limit → length_at room bytes ≡ Ok (Some n) → body_at n (room - 8) (drop 8 bytes) ≡ r → frame_at limit room bytes ≡ r
-frame_of limit room n bytes r within first second = rw first (chosen_second _ _ _ (le-ltb _ _ within) ∙ second)
+framed_by : (limit room n : ℕ) (bytes : List ℕ) (r : Result (Option (List ℕ)) FrameFault) → n ≤ limit → length_at room bytes ≡ Ok (Some n) → body_at n (room - 8) (drop 8 bytes) ≡ r → frame_at limit room bytes ≡ r
+framed_by limit room n bytes r within first second = rw first (chosen_second _ _ _ (le-ltb _ _ within) ∙ second)
 
 -- a body is never missing, and has no length of its own that is too long
 not_none : {A : Type 0} (n room : ℕ) (bytes : List ℕ) → body_at n room bytes ≡ Ok None → A
@@ -152,31 +152,31 @@ not_too_long n room k bytes is = absurd (cases (nat_lt (length bytes) (min n roo
 
 -- a body that was taken behind a length
 body_behind : (limit room n : ℕ) (bytes : List ℕ) (result : Result (Option (List ℕ)) FrameFault) (left : Option (List ℕ)) → n ≤ limit → length_at room bytes ≡ Ok (Some n)
-    → Takes (λ (body : List ℕ). length body) (room - 8) result (body_at n (room - 8) (drop 8 bytes)) (drop 8 bytes) left
-    → Takes (λ (body : List ℕ). 8 + length body) room result (frame_at limit room bytes) bytes left
+    → TakesOff (λ (body : List ℕ). length body) (room - 8) result (body_at n (room - 8) (drop 8 bytes)) (drop 8 bytes) left
+    → TakesOff (λ (body : List ℕ). 8 + length body) room result (frame_at limit room bytes) bytes left
 body_behind limit room n bytes (Ok None) left within first taken = not_none n (room - 8) (drop 8 bytes) taken.0
 body_behind limit room n bytes (Ok (Some body)) left within first taken =
-    (frame_of limit room n bytes _ within first taken.0, taken.1 ∙ ap Some (drop-drop (length body) 8 bytes))
+    (framed_by limit room n bytes _ within first taken.0, taken.1 ∙ ap Some (drop-drop (length body) 8 bytes))
 body_behind limit room n bytes (Err fault.Link) left within first taken = behind_again bytes left 8 taken
 body_behind limit room n bytes (Err fault.Memory) left within first taken = behind_again bytes left 8 taken
-body_behind limit room n bytes (Err fault.Short) left within first taken = (frame_of limit room n bytes _ within first taken.0, taken.1)
+body_behind limit room n bytes (Err fault.Short) left within first taken = (framed_by limit room n bytes _ within first taken.0, taken.1)
 body_behind limit room n bytes (Err fault.Long) left within first taken =
     let all : 8 + (room - 8) ≡ room = omega (arith, (length_has room bytes n first).1) in
-    (frame_of limit room n bytes _ within first taken.0, taken.1 ∙ ap Some (drop-drop (room - 8) 8 bytes ∙ ap (λ k. drop k bytes) all))
+    (framed_by limit room n bytes _ within first taken.0, taken.1 ∙ ap Some (drop-drop (room - 8) 8 bytes ∙ ap (λ k. drop k bytes) all))
 body_behind limit room n bytes (Err (fault.TooLong k)) left within first taken = not_too_long n (room - 8) k (drop 8 bytes) taken.0
 
 -- the same, of what a link has left
 pub frame_behind : (limit room n : ℕ) (result : Result (Option (List ℕ)) FrameFault) (old mid new : Option (List ℕ)) → n ≤ limit
-    → IfSome old (λ bytes. Takes (λ (n : ℕ). 8) room (Ok (Some n)) (length_at room bytes) bytes mid)
-    → IfSome mid (λ bytes. Takes (λ (body : List ℕ). length body) (room - 8) result (body_at n (room - 8) bytes) bytes new)
-    → IfSome old (λ bytes. Takes (λ (body : List ℕ). 8 + length body) room result (frame_at limit room bytes) bytes new)
+    → IfSome old (λ bytes. TakesOff (λ (n : ℕ). 8) room (Ok (Some n)) (length_at room bytes) bytes mid)
+    → IfSome mid (λ bytes. TakesOff (λ (body : List ℕ). length body) (room - 8) result (body_at n (room - 8) bytes) bytes new)
+    → IfSome old (λ bytes. TakesOff (λ (body : List ℕ). 8 + length body) room result (frame_at limit room bytes) bytes new)
 frame_behind limit room n result None mid new within first second = tt
 frame_behind limit room n result (Some bytes) mid new within first second =
-    let behind : Option (List ℕ) → Type 0 = λ told. IfSome told (λ rest. Takes (λ (body : List ℕ). length body) (room - 8) result (body_at n (room - 8) rest) rest new) in
+    let behind : Option (List ℕ) → Type 0 = λ told. IfSome told (λ rest. TakesOff (λ (body : List ℕ). length body) (room - 8) result (body_at n (room - 8) rest) rest new) in
     body_behind limit room n bytes result new within first.0 (subst behind first.1 second)
 
 -- the same of a body, where the buffer is a Vec's
 pub body_whole_of : (size room count len : ℕ) (old new : Option (List ℕ)) (buffer items body : List ℕ) → length buffer ≡ min size room → length buffer ≡ len → body ≡ take len (buffer ++ drop (length buffer) items) → min size room ≤ count → size ≤ room → IfSome old (λ bytes. FilledFrom bytes new count buffer)
-    → IfSome old (λ bytes. Takes (λ (body : List ℕ). length body) room (Ok (Some body)) (body_at size room bytes) bytes new)
+    → IfSome old (λ bytes. TakesOff (λ (body : List ℕ). length body) room (Ok (Some body)) (body_at size room bytes) bytes new)
 body_whole_of size room count len old new buffer items body is all same whole many filled =
     rw (same, take_at buffer (drop (length buffer) items) len all) (body_whole size room count old new buffer is whole many filled)

@@ -33,59 +33,59 @@ error_code (answers.Error code) = Some code
 error_code _ = None
 
 -- what an answer to `Settings` holds
-abbrev pub settings_parts : Answer → Option (Settings)
-settings_parts (answers.Settings body) = Some body
-settings_parts _ = None
+abbrev pub settings_answered : Answer → Option (Settings)
+settings_answered (answers.Settings body) = Some body
+settings_answered _ = None
 
 -- what an answer to `FormContract` holds
-abbrev pub form_parts : Answer → Option (List CoinInput × List CoinOutput)
-form_parts (answers.Form inputs outputs) = Some (inputs, outputs)
-form_parts _ = None
+abbrev pub form_answered : Answer → Option (List CoinInput × List CoinOutput)
+form_answered (answers.Form inputs outputs) = Some (inputs, outputs)
+form_answered _ = None
 
 -- what an answer to `FormSign` holds
-abbrev pub form_sign_parts : Answer → Option (List Signature)
-form_sign_parts (answers.FormSign body) = Some body
-form_sign_parts _ = None
+abbrev pub form_sign_answered : Answer → Option (List Signature)
+form_sign_answered (answers.FormSign body) = Some body
+form_sign_answered _ = None
 
 -- what an answer to `Lock` holds
-abbrev pub lock_parts : Answer → Option (LockAnswer)
-lock_parts (answers.Lock body) = Some body
-lock_parts _ = None
+abbrev pub lock_answered : Answer → Option (LockAnswer)
+lock_answered (answers.Lock body) = Some body
+lock_answered _ = None
 
 -- what an answer to `Unlock` holds
-abbrev pub unlock_parts : Answer → Option (Unit {0})
-unlock_parts answers.Unlock = Some tt
-unlock_parts _ = None
+abbrev pub unlock_answered : Answer → Option (Unit {0})
+unlock_answered answers.Unlock = Some tt
+unlock_answered _ = None
 
 -- what an answer to `Write` holds
-abbrev pub write_parts : Answer → Option (WriteAnswer)
-write_parts (answers.Write body) = Some body
-write_parts _ = None
+abbrev pub write_answered : Answer → Option (WriteAnswer)
+write_answered (answers.Write body) = Some body
+write_answered _ = None
 
 -- what an answer to `WriteSign` holds
-abbrev pub write_sign_parts : Answer → Option (List ℕ)
-write_sign_parts (answers.WriteSign body) = Some body
-write_sign_parts _ = None
+abbrev pub write_sign_answered : Answer → Option (List ℕ)
+write_sign_answered (answers.WriteSign body) = Some body
+write_sign_answered _ = None
 
 -- what an answer to `Read` holds
-abbrev pub read_parts : Answer → Option (ReadAnswer)
-read_parts (answers.Read body) = Some body
-read_parts _ = None
+abbrev pub read_answered : Answer → Option (ReadAnswer)
+read_answered (answers.Read body) = Some body
+read_answered _ = None
 
 -- what an answer to `Roots` holds
-abbrev pub roots_parts : Answer → Option (RootsAnswer)
-roots_parts (answers.Roots body) = Some body
-roots_parts _ = None
+abbrev pub roots_answered : Answer → Option (RootsAnswer)
+roots_answered (answers.Roots body) = Some body
+roots_answered _ = None
 
 -- what an answer to `Renew` holds
-abbrev pub renew_parts : Answer → Option (List CoinInput × List CoinOutput)
-renew_parts (answers.Renew inputs outputs) = Some (inputs, outputs)
-renew_parts _ = None
+abbrev pub renew_answered : Answer → Option (List CoinInput × List CoinOutput)
+renew_answered (answers.Renew inputs outputs) = Some (inputs, outputs)
+renew_answered _ = None
 
 -- what an answer to `RenewSign` holds
-abbrev pub renew_sign_parts : Answer → Option (List Signature)
-renew_sign_parts (answers.RenewSign body) = Some body
-renew_sign_parts _ = None
+abbrev pub renew_sign_answered : Answer → Option (List Signature)
+renew_sign_answered (answers.RenewSign body) = Some body
+renew_sign_answered _ = None
 
 -- what nobody answers
 abbrev pub unanswered : Codec Answer
@@ -93,17 +93,17 @@ unanswered = record { fits = λ limit answer. ⊥; spelled = λ answer. []; read
 
 -- what answers to the requests of a label hold, where they tell no error
 abbrev pub answer_behind : Label → Codec Answer
-answer_behind label.Settings = variant settings (λ body. answers.Settings body) settings_parts
-answer_behind label.FormContract = variant (list_of coin_input & list_of coin_output) (λ body. answers.Form body.0 body.1) form_parts
-answer_behind label.FormSign = variant (list_of signature) (λ body. answers.FormSign body) form_sign_parts
-answer_behind label.Lock = variant lock_answer (λ body. answers.Lock body) lock_parts
-answer_behind label.Unlock = variant nothing (λ body. answers.Unlock) unlock_parts
-answer_behind label.Write = variant write_answer (λ body. answers.Write body) write_parts
-answer_behind label.WriteSign = variant byte_string (λ body. answers.WriteSign body) write_sign_parts
-answer_behind label.Read = variant read_answer (λ body. answers.Read body) read_parts
-answer_behind label.Roots = variant roots_answer (λ body. answers.Roots body) roots_parts
-answer_behind label.Renew = variant (list_of coin_input & list_of coin_output) (λ body. answers.Renew body.0 body.1) renew_parts
-answer_behind label.RenewSign = variant (list_of signature) (λ body. answers.RenewSign body) renew_sign_parts
+answer_behind label.Settings = variant settings (λ body. answers.Settings body) settings_answered
+answer_behind label.FormContract = variant (list_of coin_input & list_of coin_output) (λ body. answers.Form body.0 body.1) form_answered
+answer_behind label.FormSign = variant (list_of signature) (λ body. answers.FormSign body) form_sign_answered
+answer_behind label.Lock = variant lock_answer (λ body. answers.Lock body) lock_answered
+answer_behind label.Unlock = variant nothing (λ body. answers.Unlock) unlock_answered
+answer_behind label.Write = variant write_answer (λ body. answers.Write body) write_answered
+answer_behind label.WriteSign = variant byte_string (λ body. answers.WriteSign body) write_sign_answered
+answer_behind label.Read = variant read_answer (λ body. answers.Read body) read_answered
+answer_behind label.Roots = variant roots_answer (λ body. answers.Roots body) roots_answered
+answer_behind label.Renew = variant (list_of coin_input & list_of coin_output) (λ body. answers.Renew body.0 body.1) renew_answered
+answer_behind label.RenewSign = variant (list_of signature) (λ body. answers.RenewSign body) renew_sign_answered
 answer_behind label.LoopExit = unanswered
 
 -- what stands behind the first byte

@@ -6,8 +6,8 @@ use Rattle.sia_rhp.specs.declared.frames.FrameFault.{FrameFault}
 use Rattle.sia_rhp.specs.declared.frames.FrameFault.TheVariants as fault
 
 -- the frame of a body
-abbrev pub frame : List ℕ → List ℕ
-frame body = spelled_bytes body
+abbrev pub frame_of : List ℕ → List ℕ
+frame_of body = spelled_bytes body
 
 -- The length at the front of bytes, of which `room` may be taken: none where no byte is left.
 unfoldable pub length_at : ℕ → List ℕ → Result (Option ℕ) FrameFault
@@ -40,17 +40,17 @@ pub record Reader : Type 0 where
   pub fault : Option FrameFault
 
 -- how a stream of frames ends
-pub data Last : Type 0 where
-  Between : Last
-  Faulty : FrameFault → Last
+pub data StreamEnd : Type 0 where
+  Between : StreamEnd
+  Faulty : FrameFault → StreamEnd
 
 -- the bodies of a stream of frames, in order, and how it ends
-pub record Stream : Type 0 where
+pub record FrameStream : Type 0 where
   pub bodies : List (List ℕ)
-  pub last : Last
+  pub last : StreamEnd
 
 -- the first body, and those behind it
-abbrev pub bodies_from : (ℕ → List ℕ → Stream) → ℕ → List ℕ → Result (Option (List ℕ)) FrameFault → Stream
+abbrev pub bodies_from : (ℕ → List ℕ → FrameStream) → ℕ → List ℕ → Result (Option (List ℕ)) FrameFault → FrameStream
 bodies_from more room bytes (Err e) = record { bodies = []; last = Faulty e }
 bodies_from more room bytes (Ok None) = record { bodies = []; last = Between }
 bodies_from more room bytes (Ok (Some body)) =
@@ -58,11 +58,11 @@ bodies_from more room bytes (Ok (Some body)) =
     record { bodies = body ∷ others.bodies; last = others.last }
 
 -- the bodies at the front of bytes, at most so many of them
-unfoldable pub frames_in : ℕ → ℕ → ℕ → List ℕ → Stream
+unfoldable pub frames_in : ℕ → ℕ → ℕ → List ℕ → FrameStream
 frames_in zero limit room bytes = record { bodies = []; last = Between }
 frames_in (suc n) limit room bytes = bodies_from (frames_in n limit) room bytes (frame_at limit room bytes)
 
 -- The bodies at the front of bytes, of which `room` may be taken, and how they end. Each frame has bytes, so there are no more
 -- frames than bytes.
-unfoldable pub frames : ℕ → ℕ → List ℕ → Stream
-frames limit room bytes = frames_in (suc (length bytes)) limit room bytes
+unfoldable pub frames_of : ℕ → ℕ → List ℕ → FrameStream
+frames_of limit room bytes = frames_in (suc (length bytes)) limit room bytes

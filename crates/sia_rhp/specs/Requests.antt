@@ -35,79 +35,79 @@ label_of_request (requests.RenewSign body) = label.RenewSign
 label_of_request requests.LoopExit = label.LoopExit
 
 -- that a request is one of `Settings`
-abbrev pub settings_parts : Request → Option (Unit {0})
-settings_parts requests.Settings = Some tt
-settings_parts _ = None
+abbrev pub settings_asked : Request → Option (Unit {0})
+settings_asked requests.Settings = Some tt
+settings_asked _ = None
 
 -- what a request of `FormContract` holds
-abbrev pub form_contract_parts : Request → Option (FormRequest)
-form_contract_parts (requests.FormContract body) = Some body
-form_contract_parts _ = None
+abbrev pub form_contract_asked : Request → Option (FormRequest)
+form_contract_asked (requests.FormContract body) = Some body
+form_contract_asked _ = None
 
 -- what a request of `FormSign` holds
-abbrev pub form_sign_parts : Request → Option (List Signature)
-form_sign_parts (requests.FormSign body) = Some body
-form_sign_parts _ = None
+abbrev pub form_sign_asked : Request → Option (List Signature)
+form_sign_asked (requests.FormSign body) = Some body
+form_sign_asked _ = None
 
 -- what a request of `Lock` holds
-abbrev pub lock_parts : Request → Option (LockRequest)
-lock_parts (requests.Lock body) = Some body
-lock_parts _ = None
+abbrev pub lock_asked : Request → Option (LockRequest)
+lock_asked (requests.Lock body) = Some body
+lock_asked _ = None
 
 -- that a request is one of `Unlock`
-abbrev pub unlock_parts : Request → Option (Unit {0})
-unlock_parts requests.Unlock = Some tt
-unlock_parts _ = None
+abbrev pub unlock_asked : Request → Option (Unit {0})
+unlock_asked requests.Unlock = Some tt
+unlock_asked _ = None
 
 -- what a request of `Write` holds
-abbrev pub write_parts : Request → Option (WriteRequest)
-write_parts (requests.Write body) = Some body
-write_parts _ = None
+abbrev pub write_asked : Request → Option (WriteRequest)
+write_asked (requests.Write body) = Some body
+write_asked _ = None
 
 -- what a request of `WriteSign` holds
-abbrev pub write_sign_parts : Request → Option (List ℕ)
-write_sign_parts (requests.WriteSign body) = Some body
-write_sign_parts _ = None
+abbrev pub write_sign_asked : Request → Option (List ℕ)
+write_sign_asked (requests.WriteSign body) = Some body
+write_sign_asked _ = None
 
 -- what a request of `Read` holds
-abbrev pub read_parts : Request → Option (ReadRequest)
-read_parts (requests.Read body) = Some body
-read_parts _ = None
+abbrev pub read_asked : Request → Option (ReadRequest)
+read_asked (requests.Read body) = Some body
+read_asked _ = None
 
 -- what a request of `Roots` holds
-abbrev pub roots_parts : Request → Option (PaidRoots)
-roots_parts (requests.Roots body) = Some body
-roots_parts _ = None
+abbrev pub roots_asked : Request → Option (PaidRoots)
+roots_asked (requests.Roots body) = Some body
+roots_asked _ = None
 
 -- what a request of `Renew` holds
-abbrev pub renew_parts : Request → Option (Transaction)
-renew_parts (requests.Renew body) = Some body
-renew_parts _ = None
+abbrev pub renew_asked : Request → Option (Transaction)
+renew_asked (requests.Renew body) = Some body
+renew_asked _ = None
 
 -- what a request of `RenewSign` holds
-abbrev pub renew_sign_parts : Request → Option (List Signature)
-renew_sign_parts (requests.RenewSign body) = Some body
-renew_sign_parts _ = None
+abbrev pub renew_sign_asked : Request → Option (List Signature)
+renew_sign_asked (requests.RenewSign body) = Some body
+renew_sign_asked _ = None
 
 -- that a request is one of `LoopExit`
-abbrev pub loop_exit_parts : Request → Option (Unit {0})
-loop_exit_parts requests.LoopExit = Some tt
-loop_exit_parts _ = None
+abbrev pub loop_exit_asked : Request → Option (Unit {0})
+loop_exit_asked requests.LoopExit = Some tt
+loop_exit_asked _ = None
 
 -- what the requests of a label hold
 abbrev pub request_behind : Label → Codec Request
-request_behind label.Settings = variant nothing (λ body. requests.Settings) settings_parts
-request_behind label.FormContract = variant form_request (λ body. requests.FormContract body) form_contract_parts
-request_behind label.FormSign = variant (list_of signature) (λ body. requests.FormSign body) form_sign_parts
-request_behind label.Lock = variant lock_request (λ body. requests.Lock body) lock_parts
-request_behind label.Unlock = variant nothing (λ body. requests.Unlock) unlock_parts
-request_behind label.Write = variant write_request (λ body. requests.Write body) write_parts
-request_behind label.WriteSign = variant byte_string (λ body. requests.WriteSign body) write_sign_parts
-request_behind label.Read = variant read_request (λ body. requests.Read body) read_parts
-request_behind label.Roots = variant paid_roots (λ body. requests.Roots body) roots_parts
-request_behind label.Renew = variant transaction (λ body. requests.Renew body) renew_parts
-request_behind label.RenewSign = variant (list_of signature) (λ body. requests.RenewSign body) renew_sign_parts
-request_behind label.LoopExit = variant nothing (λ body. requests.LoopExit) loop_exit_parts
+request_behind label.Settings = variant nothing (λ body. requests.Settings) settings_asked
+request_behind label.FormContract = variant form_request (λ body. requests.FormContract body) form_contract_asked
+request_behind label.FormSign = variant (list_of signature) (λ body. requests.FormSign body) form_sign_asked
+request_behind label.Lock = variant lock_request (λ body. requests.Lock body) lock_asked
+request_behind label.Unlock = variant nothing (λ body. requests.Unlock) unlock_asked
+request_behind label.Write = variant write_request (λ body. requests.Write body) write_asked
+request_behind label.WriteSign = variant byte_string (λ body. requests.WriteSign body) write_sign_asked
+request_behind label.Read = variant read_request (λ body. requests.Read body) read_asked
+request_behind label.Roots = variant paid_roots (λ body. requests.Roots body) roots_asked
+request_behind label.Renew = variant transaction (λ body. requests.Renew body) renew_asked
+request_behind label.RenewSign = variant (list_of signature) (λ body. requests.RenewSign body) renew_sign_asked
+request_behind label.LoopExit = variant nothing (λ body. requests.LoopExit) loop_exit_asked
 
 -- a request: its label, and what requests of that label hold
 abbrev pub request : Codec Request

@@ -4,8 +4,8 @@ ghost use Rattle.std.specs.Io.KnownBytes.{Appends};
 ghost use Rattle.sia_edge.specs.Edge.{Rose};
 ghost use Rattle.sia_edge.specs.Whole.{AppendsSomeOf};
 ghost use Rattle.sia_encoding.specs.Spelling.{spelled_u64};
-ghost use Rattle.sia_rhp.specs.Frames.{frame, body_at, frame_at, length_at};
-ghost use Rattle.sia_rhp.specs.Taking.{Takes, Moves};
+ghost use Rattle.sia_rhp.specs.Frames.{frame_of, body_at, frame_at, length_at};
+ghost use Rattle.sia_rhp.specs.Taking.{TakesOff, Moves};
 
 use sia_edge::{Link, fill_from_link, write_to_link};
 use sia_encoding::Blob;
@@ -71,7 +71,7 @@ impl FrameReader {
     /// nothing. Nothing is read behind the length at `TooLong`, nor behind the greatest count of bytes at `Long`. A fault of
     /// `Link` or `Memory` says nothing of the bytes.
     pub fn next<L: Link>(&mut self, alloc: Global, link: &mut L) -> Result<Option<Blob>, FrameFault>
-        ensures bytes { self.old.fault ≡ None → IfSome (L.left link.old) (λ bytes. Takes (λ body. 8 + size body) self.old.room result (frame_at self.old.limit self.old.room bytes) bytes (L.left link.new)) }
+        ensures bytes { self.old.fault ≡ None → IfSome (L.left link.old) (λ bytes. TakesOff (λ body. 8 + size body) self.old.room result (frame_at self.old.limit self.old.room bytes) bytes (L.left link.new)) }
         ensures moves { self.old.fault ≡ None → Moves self.old self.new result }
         ensures sticky { IfSome self.old.fault (λ fault. (result ≡ Err fault) × (self.new ≡ self.old) × (link.new ≡ link.old)) }
         ensures apart { L.taken link.new ≡ L.taken link.old }
@@ -102,7 +102,7 @@ fn take_frame<L: Link>(
     limit: u64,
     room: u64,
 ) -> Result<Option<Blob>, FrameFault>
-    ensures bytes { IfSome (L.left link.old) (λ bytes. Takes (λ body. 8 + size body) room result (frame_at limit room bytes) bytes (L.left link.new)) }
+    ensures bytes { IfSome (L.left link.old) (λ bytes. TakesOff (λ body. 8 + size body) room result (frame_at limit room bytes) bytes (L.left link.new)) }
     ensures within { IfOk result (λ found. IfSome found (λ body. 8 + size body ≤ room)) }
     ensures apart { L.taken link.new ≡ L.taken link.old }
     ensures later { L.faults link.old ≤ L.faults link.new }
@@ -122,7 +122,7 @@ fn take_frame<L: Link>(
 
 // The length at the front of what the link has left.
 fn take_length<L: Link>(link: &mut L, room: u64) -> Result<Option<u64>, FrameFault>
-    ensures bytes { IfSome (L.left link.old) (λ bytes. Takes (λ length. 8) room result (length_at room bytes) bytes (L.left link.new)) }
+    ensures bytes { IfSome (L.left link.old) (λ bytes. TakesOff (λ length. 8) room result (length_at room bytes) bytes (L.left link.new)) }
     ensures within { IfOk result (λ found. IfSome found (λ length. 8 ≤ room)) }
     ensures apart { L.taken link.new ≡ L.taken link.old }
     ensures later { L.faults link.old ≤ L.faults link.new }
@@ -143,7 +143,7 @@ fn take_length<L: Link>(link: &mut L, room: u64) -> Result<Option<u64>, FrameFau
 // The last bytes that may be taken, which are too few for a length.
 fn take_last<L: Link>(link: &mut L, last: &mut [u8]) -> Result<Option<u64>, FrameFault>
     requires { size last.old < 8 }
-    ensures bytes { IfSome (L.left link.old) (λ bytes. Takes (λ length. 8) (size last.old) result (length_at (size last.old) bytes) bytes (L.left link.new)) }
+    ensures bytes { IfSome (L.left link.old) (λ bytes. TakesOff (λ length. 8) (size last.old) result (length_at (size last.old) bytes) bytes (L.left link.new)) }
     ensures none { IfOk result (λ found. found ≡ None) }
     ensures apart { L.taken link.new ≡ L.taken link.old }
     ensures later { L.faults link.old ≤ L.faults link.new }
@@ -170,7 +170,7 @@ fn take_body<L: Link>(
     length: u64,
     room: u64,
 ) -> Result<Option<Blob>, FrameFault>
-    ensures bytes { IfSome (L.left link.old) (λ bytes. Takes (λ body. size body) room result (body_at length room bytes) bytes (L.left link.new)) }
+    ensures bytes { IfSome (L.left link.old) (λ bytes. TakesOff (λ body. size body) room result (body_at length room bytes) bytes (L.left link.new)) }
     ensures within { IfOk result (λ found. IfSome found (λ body. size body ≤ room)) }
     ensures apart { L.taken link.new ≡ L.taken link.old }
     ensures later { L.faults link.old ≤ L.faults link.new }
@@ -197,8 +197,8 @@ fn take_body<L: Link>(
 /// Writes the frame of a body. A frame of up to 4 KiB goes out in one write; of a longer one the first 4 KiB go with its length.
 /// After an error, which is always `Link`, some first bytes of the frame were written. It takes no memory.
 pub fn send<L: Link>(link: &mut L, body: &[u8]) -> Result<(), FrameFault>
-    ensures all { OnOk result (Appends (L.taken link.old) (L.taken link.new) (frame body.now)) }
-    ensures some { OnErr result (AppendsSomeOf (L.taken link.old) (L.taken link.new) (frame body.now)) }
+    ensures all { OnOk result (Appends (L.taken link.old) (L.taken link.new) (frame_of body.now)) }
+    ensures some { OnErr result (AppendsSomeOf (L.taken link.old) (L.taken link.new) (frame_of body.now)) }
     ensures fault { IfErr result (λ fault. fault ≡ FrameFault.Link) }
     ensures apart { L.left link.new ≡ L.left link.old }
     ensures later { L.faults link.old ≤ L.faults link.new }
