@@ -15,7 +15,6 @@ from .records import (
     Transaction,
     claim_identifier,
     proof_place,
-    settlement_identifier,
 )
 from .signing import seal, signature_hash
 
@@ -137,6 +136,7 @@ class Draft:
         """The transaction, done on the chain, its entries named."""
         self.fill_terms()
         self.fill_rests()
+        self.tx.keep()
         self.sign()
         self.name_entries()
         self.world.chain.transact(self.tx)

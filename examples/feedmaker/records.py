@@ -142,6 +142,10 @@ class Transaction:
     fees: list = field(default_factory=list)
     notes: list = field(default_factory=list)
     signatures: list = field(default_factory=list)
+    kept: bytes = None  # the spelling of the fields but the signatures, once they change no more
+
+    def keep(self):
+        self.kept = self.unsigned()
 
     def spelled_entries(self, name):
         """The spellings of a list's entries."""
@@ -150,7 +154,7 @@ class Transaction:
 
     def unsigned(self):
         """The spelling of all fields but the signatures."""
-        return b"".join(listed(self.spelled_entries(name)) for name in COVERED[:-1])
+        return self.kept or b"".join(listed(self.spelled_entries(name)) for name in COVERED[:-1])
 
     def encode(self):
         return self.unsigned() + listed(self.spelled_entries("signatures"))

@@ -124,9 +124,9 @@ def wanderings():
             name, start = f"coin{lane}@{height}", f"coin{lane}@{height - 1}"
             yield f"transaction\ninput {start}\noutput rest to {who} as {name}\nfee {lane + 1}\nnote {height}"
         if height % 10 == 0:  # two blocks are dropped and made anew, but for their nonces
-            yield f"reverts 2\nblock nonce 99"
+            yield "reverts 2\nblock nonce 99"
             yield from (f"transaction\ninput coin{lane}@{height - 2}\noutput rest to {who} as coin{lane}@{height - 1}" for lane in range(20))
-            yield f"block nonce 99"
+            yield "block nonce 99"
             yield from (f"transaction\ninput coin{lane}@{height - 1}\noutput rest to {who} as coin{lane}@{height}" for lane in range(20))
 
 
