@@ -49,8 +49,8 @@ fn inverse_matrix(places: &[u8]) -> Vec<Vec<u8>> {
         .iter()
         .enumerate()
         .map(|(row, &place)| {
-            let mut power = 1;
-            let mut both: Vec<u8> = (0..k).map(|_| std::mem::replace(&mut power, product(power, place))).collect();
+            let powers = std::iter::successors(Some(1), |&power| Some(product(power, place)));
+            let mut both: Vec<u8> = powers.take(k).collect();
             both.extend((0..k).map(|column| u8::from(column == row)));
             both
         })
