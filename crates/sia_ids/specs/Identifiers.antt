@@ -9,10 +9,11 @@ use Rattle.sia_types.specs.declared.funds.FundOutput.{FundOutput}
 use Rattle.sia_types.specs.declared.block.Block.{Block}
 use Rattle.sia_types.specs.Coins.{coin_output}
 use Rattle.sia_types.specs.Funds.{fund_output}
+use Rattle.sia_types.specs.Transaction.{transaction}
 
--- the root of a block: its leaves are its payouts
+-- the root of a block: its leaves are its payouts, and then its transactions
 unfoldable pub block_root : Block → List ℕ
-block_root block = root_of (map coin_output.spelled block.payouts)
+block_root block = root_of (map coin_output.spelled block.payouts ++ map transaction.spelled block.transactions)
 
 -- the header of a block: its parent, its nonce, its timestamp and its root
 unfoldable pub block_text : Block → List ℕ

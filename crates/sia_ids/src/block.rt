@@ -1,5 +1,6 @@
 //! The identifiers of a block and of its payouts.
-ghost use Rattle.std.specs.Prelude.{◌≡◌, IfOk};
+ghost use Rattle.std.specs.Prelude.{◌≡◌, ◌++◌, map, IfOk, OnOk};
+ghost use Rattle.sia_merkle.specs.Roots.{leaf_digest};
 ghost use Rattle.sia_ids.specs.Identifiers.{block_root, block_id as block_id_of, payout_id as payout_id_of};
 
 use sia_blake::{Hash, Hasher, digest};
@@ -33,16 +34,25 @@ pub fn payout_id(block: &Hash, index: u64) -> Hash
     hasher.finish()
 }
 
-// The root over a block's payouts, each leaf being the bytes of one.
+// The root over a block's payouts and then its transactions, each leaf being the bytes of one.
 #[tactic(auto, unfolding(crate::specs::Identifiers::block_root))]
 fn root_of_block(alloc: Global, block: &Block) -> Result<Hash, AllocError>
     ensures { IfOk result (λ root. root ≡ block_root block.now) }
 {
     let mut stack = RootStack::new();
-    for payout in block.payouts.as_slice() {
+    push_leaves(alloc, &mut stack, block.payouts.as_slice())?;
+    push_leaves(alloc, &mut stack, block.transactions.as_slice())?;
+    Ok(stack.root())
+}
+
+// Pushes a leaf for each item: its bytes.
+fn push_leaves<T: Item>(alloc: Global, stack: &mut RootStack, items: &[T]) -> Result<(), AllocError>
+    ensures { OnOk result (stack.new ≡ stack.old ++ map leaf_digest (map T.codec.spelled items.now)) }
+{
+    for item in items {
         let mut leaf = Blob::new(alloc);
-        payout.encode(&mut leaf)?;
+        item.encode(&mut leaf)?;
         stack.push_leaf(leaf.as_slice());
     }
-    Ok(stack.root())
+    Ok(())
 }

@@ -1,9 +1,9 @@
 //! The identifiers of blocks, transactions and what they make: BLAKE2b-256 digests of labelled texts.
 //!
-//! A block is named by its header, whose root is over its payouts; a transaction by all its fields but the signatures;
-//! what a transaction makes by a label, the transaction and an index; an address by the root over its unlock conditions
-//! (siad's types/block.go, types/transactions.go, types/filecontracts.go and types/unlockhash.go). The genesis of a chain
-//! is named by its siafund outputs, under a label of its own.
+//! A block is named by its header, whose root is over its payouts and its transactions; a transaction by all its fields but
+//! the signatures; what a transaction makes by a label, the transaction and an index; an address by the root over its
+//! unlock conditions (siad's types/block.go, types/transactions.go, types/filecontracts.go and types/unlockhash.go). The
+//! genesis of a chain is named by its siafund outputs, under a label of its own.
 //!
 //! ```
 //! use sia_ids::{block_id, payout_id};
@@ -13,8 +13,8 @@
 //!
 //! # Promises
 //!
-//! - [`block_id`] is the digest of the block's header: parent, nonce, timestamp, and the Merkle root over its payouts.
-//!   [`payout_id`] is that of the block's identifier and the index of the payout.
+//! - [`block_id`] is the digest of the block's header: parent, nonce, timestamp, and the Merkle root over its payouts and
+//!   then its transactions. [`payout_id`] is that of the block's identifier and the index of the payout.
 //! - [`tx_id`] is the digest of a transaction without its signatures; [`coin_id`], [`fund_id`] and [`contract_id`] that of
 //!   a label, the same, and an index.
 //! - [`claim_id`] is the digest of a label and the siafund output's identifier; [`settle_id`] that of a label, the

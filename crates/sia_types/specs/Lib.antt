@@ -7,3 +7,4 @@ pub mod Transaction
 pub mod Block
 pub mod UpdateProof
 pub mod DiffProof
+pub mod Settings

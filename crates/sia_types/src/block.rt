@@ -1,14 +1,12 @@
-//! Blocks that pay their miners (siad's types/block.go).
+//! Blocks: what a miner puts on the chain (siad's types/block.go).
 ghost use Rattle.std.specs.Prelude.{ℕ, ◌++◌};
-ghost use Rattle.sia_encoding.specs.Answer.{Answers, itself};
-ghost use Rattle.sia_types.specs.Block.{no_transactions};
 
 use crate::coins::CoinOutput;
+use crate::transaction::Transaction;
 use sia_encoding::{Blob, Cursor, DecodeFault, Item, List, Spelled, behind};
 use std::alloc::{AllocError, Global};
 
-/// A block that pays its miner. It has no transactions: its spelling ends with their count, 0, and reading answers
-/// `TooLong` at any other count.
+/// A block: it pays its miner, and holds transactions.
 #[derive(Drop)]
 pub struct Block {
     /// The identifier of the block that it stands on.
@@ -19,6 +17,8 @@ pub struct Block {
     pub timestamp: u64,
     /// What the miner is paid: any number of outputs, in order.
     pub payouts: List<CoinOutput>,
+    /// Its transactions, in the order in which they take effect.
+    pub transactions: List<Transaction>,
 }
 
 impl Item for Block {
@@ -29,18 +29,24 @@ impl Item for Block {
     ghost law = { block_law };
 
     fn read(alloc: Global, cursor: &mut Cursor<'_>) -> Result<Block, DecodeFault> {
-        let block = Block {
+        Ok(Block {
             parent: Item::read(alloc, cursor)?,
             nonce: Item::read(alloc, cursor)?,
             timestamp: Item::read(alloc, cursor)?,
             payouts: Item::read(alloc, cursor)?,
-        };
-        take_no_transactions(cursor)?;
-        Ok(block)
+            transactions: Item::read(alloc, cursor)?,
+        })
     }
 
     fn write(&self, out: &mut Blob) -> Result<(), AllocError> {
-        behind!(self.parent, self.nonce, self.timestamp, self.payouts, 0u64).write_each(out)
+        behind!(
+            self.parent,
+            self.nonce,
+            self.timestamp,
+            self.payouts,
+            self.transactions
+        )
+        .write_each(out)
     }
 
     fn copy(&self, alloc: Global) -> Result<Block, AllocError> {
@@ -48,18 +54,8 @@ impl Item for Block {
             parent: self.parent.copy(alloc)?,
             nonce: self.nonce.copy(alloc)?,
             timestamp: self.timestamp.copy(alloc)?,
-            payouts: Item::copy(&self.payouts, alloc)?,
+            payouts: self.payouts.copy(alloc)?,
+            transactions: self.transactions.copy(alloc)?,
         })
     }
-}
-
-// The count of no transactions.
-fn take_no_transactions(cursor: &mut Cursor<'_>) -> Result<(), DecodeFault>
-    ensures { Answers (λ _. (tt, cursor.new)) itself result (no_transactions.reading cursor.old) }
-{
-    let at = cursor.at();
-    if cursor.take_u64()? != 0 {
-        return Err(DecodeFault::TooLong { at });
-    }
-    Ok(())
 }

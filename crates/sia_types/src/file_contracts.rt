@@ -15,7 +15,7 @@ pub struct FileContract {
     pub root: [u8; 32],
     /// The first height of its window, in blocks.
     pub start: u64,
-    /// The first height behind its window, in blocks.
+    /// The last height of its window, in blocks: where no proof came up to it, the contract is missed there.
     pub end: u64,
     /// What is paid in all, tax included, in hastings.
     pub payout: u128,
@@ -95,7 +95,7 @@ pub struct Revision {
     pub root: [u8; 32],
     /// The first height of the window, in blocks.
     pub start: u64,
-    /// The first height behind the window, in blocks.
+    /// The last height of the window, in blocks: where no proof came up to it, the contract is missed there.
     pub end: u64,
     /// What is paid where a storage proof comes in time.
     pub valid: List<CoinOutput>,
