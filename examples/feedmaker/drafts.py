@@ -2,7 +2,7 @@
 
 from .chain import tax
 from .description import amount
-from .encoding import leaves_of, path, root
+from .encoding import LEAF, leaves_of, path, root
 from .records import (
     CoinInput,
     CoinOutput,
@@ -17,8 +17,6 @@ from .records import (
     proof_place,
 )
 from .signing import seal, signature_hash
-
-LEAF = 64
 
 
 class Draft:
@@ -73,9 +71,16 @@ class Draft:
         data = self.world.data(options.get("holds"))
         self.name(line, "file contract", self.tx.contracts, line.words[0])
         self.terms = FileContract(
-            len(data), root(leaves_of(data)), int(options["start"]), int(options["end"]), amount(options["payout"]), [], [],
-            self.world.address(options.get("unlock")), int(options.get("number", 0)),
-        )  # fmt: skip
+            size=len(data),
+            root=root(leaves_of(data)),
+            start=int(options["start"]),
+            end=int(options["end"]),
+            payout=amount(options["payout"]),
+            valid=[],
+            missed=[],
+            address=self.world.address(options.get("unlock")),
+            number=int(options.get("number", 0)),
+        )
         self.tx.contracts.append(self.terms)
 
     def read_revision(self, line):
@@ -83,12 +88,18 @@ class Draft:
         parent = self.world.identifier(line.words[0])
         old = self.world.chain.seen[parent]
         data = self.world.data(options["holds"]) if "holds" in options else None
-        size, tree_root = (old.size, old.root) if data is None else (len(data), root(leaves_of(data)))
-        address = self.world.address(options["unlock"]) if "unlock" in options else old.address
         self.terms = Revision(
-            parent, self.conditions(options, old.address, line), int(options["number"]), size, tree_root,
-            int(options.get("start", old.start)), int(options.get("end", old.end)), [], [], address,
-        )  # fmt: skip
+            parent=parent,
+            conditions=self.conditions(options, old.address, line),
+            number=int(options["number"]),
+            size=old.size if data is None else len(data),
+            root=old.root if data is None else root(leaves_of(data)),
+            start=int(options.get("start", old.start)),
+            end=int(options.get("end", old.end)),
+            valid=[],
+            missed=[],
+            address=self.world.address(options["unlock"]) if "unlock" in options else old.address,
+        )
         self.tx.revisions.append(self.terms)
 
     def read_valid(self, line):
