@@ -34,7 +34,8 @@ class Draft:
             line.fail("no such line")
         reader(line)
 
-    def name(self, line, kind, entries, name):
+    def name(self, kind, entries, name):
+        """The next of the entries is to have the name, where there is one."""
         if name:
             self.names.append((name, kind, len(entries)))
 
@@ -51,7 +52,7 @@ class Draft:
 
     def read_output(self, line):
         options = line.options(1, "to", "as")
-        self.name(line, "siacoin output", self.tx.coin_outputs, options.get("as"))
+        self.name("siacoin output", self.tx.coin_outputs, options.get("as"))
         self.tx.coin_outputs.append(CoinOutput(amount(line.words[0]), self.world.address(options.get("to"))))
 
     def read_fundinput(self, line):
@@ -62,14 +63,14 @@ class Draft:
 
     def read_fundoutput(self, line):
         options = line.options(1, "to", "as", "start")
-        self.name(line, "siafund output", self.tx.fund_outputs, options.get("as"))
+        self.name("siafund output", self.tx.fund_outputs, options.get("as"))
         start = int(options.get("start", 0))
         self.tx.fund_outputs.append(FundOutput(amount(line.words[0]), self.world.address(options.get("to")), start))
 
     def read_contract(self, line):
         options = line.options(1, "holds", "start", "end", "payout", "unlock", "number")
         data = self.world.data(options.get("holds"))
-        self.name(line, "file contract", self.tx.contracts, line.words[0])
+        self.name("file contract", self.tx.contracts, line.words[0])
         self.terms = FileContract(
             size=len(data),
             root=root(leaves_of(data)),
@@ -103,12 +104,12 @@ class Draft:
         self.tx.revisions.append(self.terms)
 
     def read_valid(self, line):
-        self.read_term(line, "valid")
+        self.add_term(line, "valid")
 
     def read_missed(self, line):
-        self.read_term(line, "missed")
+        self.add_term(line, "missed")
 
-    def read_term(self, line, kind):
+    def add_term(self, line, kind):
         if self.terms is None:
             line.fail("no contract or revision stands above")
         output = CoinOutput(amount(line.words[0]), self.world.address(line.options(1, "to").get("to")))
