@@ -8,6 +8,7 @@ from .records import FundOutput, claim_identifier, payout_identifier, settlement
 COIN = 10**24  # hastings in a siacoin
 FUNDS = 10_000  # siafunds of a chain
 DEFAULT_MATURITY = 144
+REVISED = ("number", "size", "root", "start", "end", "valid", "missed", "address")  # what a revision changes of a contract
 
 
 def subsidy(height):
@@ -27,21 +28,6 @@ class Coin:
     ripe: int  # the height from which on it can be spent
 
 
-@dataclass
-class Terms:
-    """The present terms of a contract that runs."""
-
-    payout: int
-    number: int
-    size: int
-    root: bytes
-    start: int
-    end: int
-    valid: list
-    missed: list
-    address: bytes
-
-
 class Chain:
     """What stands on the chain, block by block; `objection` is the first that was seen of what the ledger refuses. That is
     not all that it refuses: only dead parents, unripe coins and amounts that don't add up are looked for."""
@@ -51,7 +37,8 @@ class Chain:
         self.maturity = chain.get("maturity", DEFAULT_MATURITY)
         funds = [FundOutput(fund["value"], bytes.fromhex(fund["to"])) for fund in chain["siafund"]]
         self.genesis = digest(label("genesis") + listed(fund.encode() for fund in funds))
-        self.coins, self.funds, self.running, self.pool = {}, {}, {}, 0
+        self.coins, self.funds, self.running = {}, {}, {}  # by identifier; the contracts with their present terms
+        self.pool = 0
         self.blocks = []  # each with its identifier, the pool before it, and what it changed
         self.begin()
         self.seen = {}  # each output that was ever made, by its identifier
@@ -115,8 +102,7 @@ class Chain:
             self.create(tx.entry_identifier("siacoin output", index), output, height)
         for index, one in enumerate(tx.contracts):
             self.pool += tax(one.payout)
-            terms = Terms(one.payout, one.number, one.size, one.root, one.start, one.end, one.valid, one.missed, one.address)
-            self.put(self.running, tx.entry_identifier("file contract", index), terms)
+            self.put(self.running, tx.entry_identifier("file contract", index), one)
         for one in tx.revisions:
             self.revise(one)
         for proof in tx.proofs:
@@ -130,10 +116,10 @@ class Chain:
         self.expect(sum(coin.value for coin in inputs if coin) == out, "siacoins don't balance")
 
     def revise(self, one):
+        """The contract goes on with the revision's terms, its payout alone being the old one."""
         old = self.spend(self.running, one.parent, "contract")
         if old:
-            fields = ("number", "size", "root", "start", "end", "valid", "missed", "address")
-            self.put(self.running, one.parent, replace(old, **{name: getattr(one, name) for name in fields}))
+            self.put(self.running, one.parent, replace(old, **{name: getattr(one, name) for name in REVISED}))
 
     def spend_funds(self, tx, height):
         spent = 0

@@ -2,7 +2,7 @@
 
 from .chain import tax
 from .description import amount
-from .encoding import leaves_of, path, root
+from .encoding import LEAF, leaves_of, path, root
 from .records import (
     CoinInput,
     CoinOutput,
@@ -17,8 +17,6 @@ from .records import (
     proof_place,
 )
 from .signing import seal, signature_hash
-
-LEAF = 64
 
 
 class Draft:
@@ -36,7 +34,8 @@ class Draft:
             line.fail("no such line")
         reader(line)
 
-    def name(self, line, kind, entries, name):
+    def name(self, kind, entries, name):
+        """The next of the entries is to have the name, where there is one."""
         if name:
             self.names.append((name, kind, len(entries)))
 
@@ -53,7 +52,7 @@ class Draft:
 
     def read_output(self, line):
         options = line.options(1, "to", "as")
-        self.name(line, "siacoin output", self.tx.coin_outputs, options.get("as"))
+        self.name("siacoin output", self.tx.coin_outputs, options.get("as"))
         self.tx.coin_outputs.append(CoinOutput(amount(line.words[0]), self.world.address(options.get("to"))))
 
     def read_fundinput(self, line):
@@ -64,18 +63,25 @@ class Draft:
 
     def read_fundoutput(self, line):
         options = line.options(1, "to", "as", "start")
-        self.name(line, "siafund output", self.tx.fund_outputs, options.get("as"))
+        self.name("siafund output", self.tx.fund_outputs, options.get("as"))
         start = int(options.get("start", 0))
         self.tx.fund_outputs.append(FundOutput(amount(line.words[0]), self.world.address(options.get("to")), start))
 
     def read_contract(self, line):
         options = line.options(1, "holds", "start", "end", "payout", "unlock", "number")
         data = self.world.data(options.get("holds"))
-        self.name(line, "file contract", self.tx.contracts, line.words[0])
+        self.name("file contract", self.tx.contracts, line.words[0])
         self.terms = FileContract(
-            len(data), root(leaves_of(data)), int(options["start"]), int(options["end"]), amount(options["payout"]), [], [],
-            self.world.address(options.get("unlock")), int(options.get("number", 0)),
-        )  # fmt: skip
+            size=len(data),
+            root=root(leaves_of(data)),
+            start=int(options["start"]),
+            end=int(options["end"]),
+            payout=amount(options["payout"]),
+            valid=[],
+            missed=[],
+            address=self.world.address(options.get("unlock")),
+            number=int(options.get("number", 0)),
+        )
         self.tx.contracts.append(self.terms)
 
     def read_revision(self, line):
@@ -83,21 +89,27 @@ class Draft:
         parent = self.world.identifier(line.words[0])
         old = self.world.chain.seen[parent]
         data = self.world.data(options["holds"]) if "holds" in options else None
-        size, tree_root = (old.size, old.root) if data is None else (len(data), root(leaves_of(data)))
-        address = self.world.address(options["unlock"]) if "unlock" in options else old.address
         self.terms = Revision(
-            parent, self.conditions(options, old.address, line), int(options["number"]), size, tree_root,
-            int(options.get("start", old.start)), int(options.get("end", old.end)), [], [], address,
-        )  # fmt: skip
+            parent=parent,
+            conditions=self.conditions(options, old.address, line),
+            number=int(options["number"]),
+            size=old.size if data is None else len(data),
+            root=old.root if data is None else root(leaves_of(data)),
+            start=int(options.get("start", old.start)),
+            end=int(options.get("end", old.end)),
+            valid=[],
+            missed=[],
+            address=self.world.address(options["unlock"]) if "unlock" in options else old.address,
+        )
         self.tx.revisions.append(self.terms)
 
     def read_valid(self, line):
-        self.read_term(line, "valid")
+        self.add_term(line, "valid")
 
     def read_missed(self, line):
-        self.read_term(line, "missed")
+        self.add_term(line, "missed")
 
-    def read_term(self, line, kind):
+    def add_term(self, line, kind):
         if self.terms is None:
             line.fail("no contract or revision stands above")
         output = CoinOutput(amount(line.words[0]), self.world.address(line.options(1, "to").get("to")))

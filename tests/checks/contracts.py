@@ -41,6 +41,7 @@ REFUSED = {
         formation("start 8 end 10 payout 1040000", f"valid {2**128 - 1}\nvalid 1\nmissed rest"),
         "block 6 B4 SumTooLarge 0",
     ),
+    "a contract that pays nothing": (formation("start 8 end 10 payout 0"), "block 6 B5 BadValue 0"),
     "a proof beside an output": (FORM + PROVE + "output 1", "block 7 B7 ProofMix 0"),
     "a proof beside a revision": (revision("number 1") + "proof deal", "block 7 B7 ProofMix 0"),
     "one contract revised twice": (revision("number 1") + "revision deal number 2", "block 7 B8 Repeated 0"),

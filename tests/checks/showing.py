@@ -1,6 +1,6 @@
 """The command `show`: the parts of feeds, each in a file of its own."""
 
-from .running import CONFIG, FEEDS, MARKET, check_outside, check_refused, check_run, check_usage, make_feed
+from .running import CONFIG, EXAMPLES, FEEDS, MARKET, check, check_outside, check_refused, check_run, check_usage, make_feed
 
 LIMIT = 2_000_000  # bytes of an input
 
@@ -19,6 +19,18 @@ def check_part(folder, name, kind, words):
     path = folder / "shown"
     path.write_bytes(make_feed(*words))
     check_run(f"show of {name}", ["show", kind, path], 0, out=make_feed(*words, "--show").decode())
+
+
+def check_example_parts():
+    """The parts in examples/ are those of a feed there."""
+    for name, kind, words in (
+        ("formation", "transaction", ["--block", "6", "--transaction", "0"]),
+        ("proof", "block", ["--block", "11"]),
+    ):
+        path = EXAMPLES / "parts" / f"{name}.{kind}"
+        words = [MARKET, FEEDS / "contracts.txt", *words]
+        check(f"{path.name} is what its description says", make_feed(*words) == path.read_bytes())
+        check_run(f"show of {path.name}", ["show", kind, path], 0, out=make_feed(*words, "--show").decode())
 
 
 def check_show(folder):
