@@ -12,20 +12,10 @@ use Rattle.sia_merkle.proofs.Trees.{lt_pow}
 use Rattle.sia_cover.specs.Covering.{is_largest, is_over, segments_over}
 use Rattle.sia_cover.proofs.Covers.{cover_none, cover_one, cover_parts, covered_at, past_covered, power_above}
 use Rattle.sia_cover.proofs.Joins.{count_cons}
-use Rattle.sia_cover.proofs.OwnJoins.{mul_div}
+use Rattle.sia_merkle.proofs.Windows.{left_aligned, mul_div, right_aligned}
 
 index_is : (low height index : ℕ) → low ≡ index * 2 ^ height → low / 2 ^ height ≡ index
 index_is low height index aligned = ap (λ n. n / 2 ^ height) aligned ∙ mul_div index (2 ^ height) (power_above height)
-
-left_aligned : (low height index : ℕ) → low ≡ index * 2 ^ suc height → low ≡ index * 2 * 2 ^ height
-left_aligned low height index aligned =
-    let turned : index * (2 ^ height * 2) ≡ index * 2 * 2 ^ height = omega arith in
-    aligned ∙ ap (λ n. index * n) (pow-suc 2 height) ∙ turned
-
-right_aligned : (low height index : ℕ) → low ≡ index * 2 ^ suc height → low + 2 ^ height ≡ (index * 2 + 1) * 2 ^ height
-right_aligned low height index aligned =
-    let part : low ≡ index * 2 * 2 ^ height = left_aligned low height index aligned in
-    omega arith
 
 -- each segment is a largest one
 largest_told : (chosen : ℕ → Bool) (count height index : ℕ) → is_covered chosen count height (index * 2 ^ height) ≡ true → is_covered chosen count (suc height) (index / 2 * 2 ^ suc height) ≡ false

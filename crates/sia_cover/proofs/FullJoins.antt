@@ -13,7 +13,7 @@ use Rattle.sia_cover.specs.Joined.{count_below}
 use Rattle.sia_cover.proofs.Counts.{below_parts, count_all}
 use Rattle.sia_cover.proofs.Covers.{all_pass, covered_at, covered_within, cover_past, not_covered, power_above}
 use Rattle.sia_cover.proofs.Joins.{join_chosen, join_node, join_front, hash_given, hash_of_node, one_hash}
-use Rattle.sia_cover.proofs.OwnJoins.{root_node}
+use Rattle.sia_merkle.proofs.Windows.{root_node}
 use Rattle.sia_cover.proofs.SameCovers.{cover_any}
 
 -- a subtree whose places are all chosen

@@ -11,6 +11,7 @@ use Rattle.sia_merkle.specs.Computations.Tree.{Given, Node}
 use Rattle.sia_merkle.specs.Roots.{first_hash, node_digest, tree_root}
 use Rattle.sia_merkle.specs.Segments.{cover_within, is_covered, others, places_within, first_tree, joined_within}
 use Rattle.sia_merkle.proofs.Trees.{lt_pow, pow_up}
+use Rattle.sia_merkle.proofs.Windows.{drop_taken}
 use Rattle.sia_cover.proofs.Covers.{covered_at, past_covered}
 
 -- the join, case by case
@@ -88,11 +89,6 @@ first_taken : (count : ℕ) (inner : List Tree) → 0 < count → first_tree (ta
 first_taken zero inner some = absurd (omega arith)
 first_taken (suc count) [] some = refl
 first_taken (suc count) (tree ∷ inner) some = refl
-
-pub drop_taken : {X : Type 0} (first count : ℕ) (xs : List X) → first ≤ count → drop first (take count xs) ≡ take (count - first) (drop first xs)
-drop_taken first count xs fits =
-    let split : count ≡ first + (count - first) = omega arith in
-    ap (λ n. drop first (take n xs)) split ∙ drop-take first (count - first) xs
 
 join_front_end : (chosen : ℕ → Bool) (count low taken : ℕ) (inner : List Tree) (outer : List (List ℕ)) → low < count → places_within chosen count 0 low ≤ taken
     → (here : Bool) → chosen low ≡ here → joined_within chosen count 0 low (take taken inner) outer ≡ joined_within chosen count 0 low inner outer

@@ -2,11 +2,13 @@ pub mod Counts
 pub mod Covering
 pub mod Covers
 pub mod FullJoins
+pub mod Growth
 pub mod Joins
 pub mod Judged
 pub mod OwnJoins
 pub mod OwnSegments
 pub mod OwnWholes
+pub mod RowCovers
 pub mod SameCovers
 pub mod SegmentJoins
 pub mod SegmentSoundness

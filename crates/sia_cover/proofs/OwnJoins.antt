@@ -12,8 +12,9 @@ use Rattle.sia_merkle.specs.Computations.Tree.{Given}
 use Rattle.sia_merkle.specs.Roots.{first_hash, node_digest, tree_root}
 use Rattle.sia_merkle.specs.Segments.{cover_within, is_covered, others, places_within, first_tree, joined_within, segment_root, segment_roots}
 use Rattle.sia_merkle.proofs.Trees.{tree_root-low, tree_root-split}
+use Rattle.sia_merkle.proofs.Windows.{root_low, root_node, root_at}
 use Rattle.sia_cover.proofs.Covers.{power_above, cover_one, cover_parts, cover_left}
-use Rattle.sia_cover.proofs.Joins.{join_given, join_chosen, join_low, join_node, hash_given, hash_of_node, uncovered_chosen, range_parts, drop_taken}
+use Rattle.sia_cover.proofs.Joins.{join_given, join_chosen, join_low, join_node, hash_given, hash_of_node, uncovered_chosen, range_parts}
 
 -- the hashes at the chosen places among the 2 ^ height from low on
 abbrev pub own_within : (ℕ → Bool) → List (List ℕ) → ℕ → ℕ → List Tree
@@ -57,39 +58,6 @@ own_one chosen hashes low within e =
 first_at : (hashes : List (List ℕ)) (low : ℕ) → low < length hashes → tree_root 0 (take 1 (drop low hashes)) ≡ get_or hashes low []
 unfolding tree_root
 first_at hashes low within = ap (λ xs. first_hash (take 1 xs)) (drop_more hashes low [] within)
-
-pub mul_div : (index width : ℕ) → 0 < width → index * width / width ≡ index
-mul_div index width some =
-    let same : index * width ≡ index * width + 0 = omega arith in
-    ap (λ n. n / width) same ∙ div-mul-add index width 0 some
-
--- the root over the places from low on, by its two parts
-pub root_low : (hashes : List (List ℕ)) (height low : ℕ) → length hashes ≤ low + 2 ^ height → tree_root (suc height) (take (2 ^ suc height) (drop low hashes)) ≡ tree_root height (take (2 ^ height) (drop low hashes))
-root_low hashes height low past =
-    let up : 2 ^ suc height ≡ 2 ^ height * 2 = pow-suc 2 height in
-    let rest : length (drop low hashes) ≤ 2 ^ height = omega (arith, length-drop low hashes) in
-    let rest_wide : length (drop low hashes) ≤ 2 ^ suc height = omega arith in
-    let same : take (2 ^ suc height) (drop low hashes) ≡ take (2 ^ height) (drop low hashes) = take_all (2 ^ suc height) (drop low hashes) rest_wide ∙ sym (take_all (2 ^ height) (drop low hashes) rest) in
-    let fits : length (take (2 ^ height) (drop low hashes)) ≤ 2 ^ height = omega (arith, length-take (2 ^ height) (drop low hashes)) in
-    ap (tree_root (suc height)) same ∙ tree_root-low height (take (2 ^ height) (drop low hashes)) fits
-
-pub root_node : (hashes : List (List ℕ)) (height low : ℕ) → low + 2 ^ height < length hashes
-    → tree_root (suc height) (take (2 ^ suc height) (drop low hashes)) ≡ node_digest (tree_root height (take (2 ^ height) (drop low hashes))) (tree_root height (take (2 ^ height) (drop (low + 2 ^ height) hashes)))
-root_node hashes height low above =
-    let up : 2 ^ suc height ≡ 2 ^ height * 2 = pow-suc 2 height in
-    let long : 2 ^ height < length (take (2 ^ suc height) (drop low hashes)) = omega (arith, length-take (2 ^ suc height) (drop low hashes), length-drop low hashes, power_above height) in
-    let first : take (2 ^ height) (take (2 ^ suc height) (drop low hashes)) ≡ take (2 ^ height) (drop low hashes) = take-take (2 ^ height) (2 ^ suc height) (drop low hashes) (omega arith) in
-    let left_over : 2 ^ suc height - 2 ^ height ≡ 2 ^ height = omega arith in
-    let second : drop (2 ^ height) (take (2 ^ suc height) (drop low hashes)) ≡ take (2 ^ height) (drop (low + 2 ^ height) hashes) =
-    drop_taken (2 ^ height) (2 ^ suc height) (drop low hashes) (omega arith) ∙ ap (λ n. take n (drop (2 ^ height) (drop low hashes))) left_over ∙ ap (take (2 ^ height)) (drop-drop (2 ^ height) low hashes) in
-    tree_root-split height (take (2 ^ suc height) (drop low hashes)) long ∙ ap (λ xs. node_digest (tree_root height xs) (tree_root height (drop (2 ^ height) (take (2 ^ suc height) (drop low hashes))))) first
-    ∙ ap (λ xs. node_digest (tree_root height (take (2 ^ height) (drop low hashes))) (tree_root height xs)) second
-
--- the root of a segment that is given by its first place
-pub root_at : (hashes : List (List ℕ)) (height low index : ℕ) → low ≡ index * 2 ^ height → segment_root hashes height (low / 2 ^ height) ≡ tree_root height (take (2 ^ height) (drop low hashes))
-root_at hashes height low index aligned =
-    let back : low / 2 ^ height * 2 ^ height ≡ low = ap (λ n. n / 2 ^ height * 2 ^ height) aligned ∙ ap (λ n. n * 2 ^ height) (mul_div index (2 ^ height) (power_above height)) ∙ sym aligned in
-    ap (λ n. tree_root height (take (2 ^ height) (drop n hashes))) back
 
 -- the roots of a cover, by its two parts
 pub roots_parts : (chosen : ℕ → Bool) (count height low : ℕ) (hashes : List (List ℕ)) → is_covered chosen count (suc height) low ≡ false

@@ -11,7 +11,8 @@ use Rattle.sia_merkle.specs.Segments.{cover, cover_within, is_covered, others, j
 use Rattle.sia_merkle.proofs.Trees.{lt_pow}
 use Rattle.sia_cover.proofs.Covers.{cover_left, cover_one}
 use Rattle.sia_cover.proofs.Joins.{hash_given, hash_of_node}
-use Rattle.sia_cover.proofs.OwnJoins.{root_at, root_low, root_node, roots_parts}
+use Rattle.sia_merkle.proofs.Windows.{root_at, root_low, root_node}
+use Rattle.sia_cover.proofs.OwnJoins.{roots_parts}
 use Rattle.sia_cover.proofs.SegmentJoins.{other_covered, segments_inner, segments_outer, segments_low, segments_node}
 
 -- the roots of a list's cover among the 2 ^ height places from low on

@@ -8,7 +8,8 @@ use Rattle.sia_merkle.specs.Roots.{tree_root}
 use Rattle.sia_merkle.specs.Segments.{cover, cover_within, is_covered, segment_root, segment_roots}
 use Rattle.sia_merkle.proofs.Trees.{lt_pow, pow_up}
 use Rattle.sia_cover.proofs.Covers.{power_above, cover_at, cover_none, cover_one, cover_past, covered_all, covered_at, covered_within}
-use Rattle.sia_cover.proofs.OwnJoins.{root_at, roots_parts}
+use Rattle.sia_merkle.proofs.Windows.{root_at}
+use Rattle.sia_cover.proofs.OwnJoins.{roots_parts}
 use Rattle.sia_cover.proofs.OwnWholes.{neighbours}
 
 -- each chosen place is there in a list of so many hashes
@@ -31,7 +32,7 @@ covered_same : (chosen : ℕ → Bool) (count other height low : ℕ) → AreWit
 covered_same chosen count other height low within within' =
     both_ways (is_covered chosen count height low) (is_covered chosen other height low) (covered_too chosen count other height low within') (covered_too chosen other count height low within)
 
-same_end : (chosen : ℕ → Bool) (count other low : ℕ) → is_covered chosen count 0 low ≡ is_covered chosen other 0 low → cover_within chosen count 0 low ≡ cover_within chosen other 0 low
+pub same_end : (chosen : ℕ → Bool) (count other low : ℕ) → is_covered chosen count 0 low ≡ is_covered chosen other 0 low → cover_within chosen count 0 low ≡ cover_within chosen other 0 low
 unfolding cover_within
 same_end chosen count other low same = rw same refl
 

@@ -14,6 +14,8 @@
 //! # Promises
 //!
 //! - [`cover_roots`] gives the roots of the cover of a set, from left to right, for each [`PlaceSet`] and for its [`Others`].
+//! - [`append_part`] makes the roots of a cover those of the tree that has a row of hashes more: a tree whose hashes come in
+//!   parts needs none of them twice.
 //! - [`joins_to`] answers yes exactly where the hashes of a [`Row`] at the places and the roots of the cover of all others
 //!   join to a root, and none is missing or left over. It takes no memory.
 //! - [`segments_join_to`] answers so for the roots of both covers. It takes no memory.
@@ -28,6 +30,7 @@
 #![tactic(auto)]
 
 mod cover;
+mod growing;
 mod joining;
 mod laws;
 mod place_set;
@@ -35,6 +38,7 @@ mod row;
 mod segments;
 
 pub use cover::cover_roots;
+pub use growing::append_part;
 pub use joining::{join, joins_to};
 pub use laws::{each_place_is_covered_once, segments_are_largest};
 pub use place_set::{Others, PlaceSet};

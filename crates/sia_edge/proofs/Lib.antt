@@ -6,3 +6,4 @@ pub mod Filling
 pub mod Tears
 pub mod MemImages
 pub mod Pieces
+pub mod Queues

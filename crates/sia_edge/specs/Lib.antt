@@ -8,3 +8,6 @@ pub mod MemDisk
 pub mod OpenedFile
 pub mod FileDisk
 pub mod Filled
+pub mod Links
+pub mod MemDoor
+pub mod TcpDoor

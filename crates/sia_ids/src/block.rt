@@ -1,5 +1,5 @@
 //! The identifiers of a block and of its payouts.
-ghost use Rattle.std.specs.Prelude.{◌≡◌, ◌++◌, map, IfOk, OnOk};
+ghost use Rattle.std.specs.Prelude.{◌≡◌, ◌+◌, ◌<◌, ◌^◌, ◌++◌, length, map, IfOk, OnOk};
 ghost use Rattle.sia_merkle.specs.Roots.{leaf_digest};
 ghost use Rattle.sia_ids.specs.Identifiers.{block_root, block_id as block_id_of, payout_id as payout_id_of};
 
@@ -47,6 +47,7 @@ fn root_of_block(alloc: Global, block: &Block) -> Result<Hash, AllocError>
 
 // Pushes a leaf for each item: its bytes.
 fn push_leaves<T: Item>(alloc: Global, stack: &mut RootStack, items: &[T]) -> Result<(), AllocError>
+    requires { length stack.old + length items.now < 2 ^ 62 }
     ensures { OnOk result (stack.new ≡ stack.old ++ map leaf_digest (map T.codec.spelled items.now)) }
 {
     for item in items {

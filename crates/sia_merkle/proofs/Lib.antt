@@ -10,3 +10,4 @@ mod Shapes
 pub mod Stacks
 pub mod Trees
 pub mod WholeGroups
+pub mod Windows

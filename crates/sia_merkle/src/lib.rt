@@ -22,6 +22,7 @@
 //! - [`path_goes_through_its_part`]: the path of a leaf, and the hashes beside it, are those of its part and then those of
 //!   the part's root.
 //! - [`PlainNodes`] is a tree over hashes that answers for the root of each subtree, as each [`Nodes`] does.
+//! - [`Noted`] is a list of bytes that only clauses read, so that what comes in pieces can be seen whole.
 //!
 //! # Stands on
 //!
@@ -45,6 +46,7 @@ pub use laws::{
 };
 pub use leaf_proof::{check_leaf, prove_leaf};
 pub use nodes::{Nodes, PlainNodes};
+pub use noted::Noted;
 pub use pieces::PieceStack;
 pub use stack::RootStack;
 pub use whole::{HEIGHT, leaves, node_root, power, root};

@@ -6,7 +6,7 @@ use std::snapshot::Snapshot;
 
 /// The bytes that a stack was given. None of them is kept at run time, since a snapshot has no bytes.
 #[derive(Drop)]
-pub(crate) enum Noted {
+pub enum Noted {
     Nothing,
     Then {
         before: Snapshot<Noted>,
@@ -26,7 +26,7 @@ impl Noted {
     }
 
     /// Adds bytes to the list.
-    pub(crate) fn note(&mut self, bytes: &[u8])
+    pub fn note(&mut self, bytes: &[u8])
         ensures { noted_bytes self.new ≡ noted_bytes self.old ++ bytes.now }
     {
         for byte in bytes {

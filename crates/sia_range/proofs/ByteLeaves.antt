@@ -39,7 +39,7 @@ joined_by left right count whole false e =
     ap (λ bytes. leaves_of (left ++ bytes)) none ∙ ap leaves_of (append-nil left) ∙ sym (ap (λ bytes. leaves_of left ++ leaves_of bytes) none ∙ append-nil (leaves_of left))
 
 -- bytes behind whole leaves have leaves of their own
-joined : (left right : List ℕ) (count : ℕ) → length left ≡ 64 * count → leaves_of (left ++ right) ≡ leaves_of left ++ leaves_of right
+pub joined : (left right : List ℕ) (count : ℕ) → length left ≡ 64 * count → leaves_of (left ++ right) ≡ leaves_of left ++ leaves_of right
 joined left right count whole = joined_by left right count whole (nat_lt 0 (length right)) refl
 
 rest_by : (bytes : List ℕ) (count : ℕ) → count ≤ leaf_count (length bytes) → (more : Bool) → nat_lt count (leaf_count (length bytes)) ≡ more → leaves_of (drop (64 * count) bytes) ≡ drop count (leaves_of bytes)

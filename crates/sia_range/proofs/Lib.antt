@@ -1,4 +1,5 @@
 pub mod ByteLeaves
+pub mod Kept
 pub mod Judging
 pub mod OwnAccepted
 pub mod RangePlaces

@@ -2,6 +2,7 @@
 //!
 //! A range of leaves, or of hashes, is proved by the roots of the largest subtrees that cover all other places, from left to
 //! right (RHP2; the range proofs of Sia's Go library merkletree). With them the root is computed again from the range alone.
+//! A proof can be made of bytes that come in pieces, so that a file is read once and never held whole.
 //! The leaves of a range may be replaced: the root after that is computed from the same roots, once those of the range and
 //! the others were seen to give the old root.
 //!
@@ -14,6 +15,7 @@
 //! # Promises
 //!
 //! - [`prove_range`], and [`prove_nodes`] of a list of hashes, give exactly the roots of the cover of all other places.
+//! - [`RangeProver`] gives exactly the same proof, and the root, of a byte string that comes in pieces of [`PIECE_LEN`] bytes.
 //! - [`check_range`] and [`check_nodes`] accept a range exactly where it joins with the hashes to the root, and no hash is
 //!   missing or left over. They take no memory.
 //! - [`prove_update`] gives the roots of both covers: that of the range, and that of all other places.
@@ -38,6 +40,7 @@ mod check;
 mod laws;
 mod leaf_nodes;
 mod prove;
+mod prover;
 mod update;
 
 pub use check::{check_nodes, check_range};
@@ -46,4 +49,5 @@ pub use laws::{
     own_nodes_are_accepted, own_range_is_accepted, own_update_is_accepted,
 };
 pub use prove::{prove_nodes, prove_range, prove_update};
+pub use prover::{PIECE_LEN, RangeProof, RangeProver};
 pub use update::root_after_update;

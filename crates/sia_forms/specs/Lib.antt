@@ -1,0 +1,5 @@
+pub mod Parties
+pub mod Choices
+pub mod Renewing
+pub mod Checks
+pub mod Building

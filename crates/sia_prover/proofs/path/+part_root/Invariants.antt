@@ -1,0 +1,4 @@
+use Rattle.sia_prover.proofs.path.+part_root.Given as goal
+
+abbrev pub decreases-part_root : goal.decreases-part_root
+decreases-part_root g l = l.height
