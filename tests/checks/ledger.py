@@ -30,12 +30,6 @@ def check_feeds(folder):
     check_refused("a block on another parent", ["ledger", CONFIG, feed], f"block 1 B1 BadParent {tip}")
 
 
-def check_feed_form(folder):
-    feed = folder / "cut.feed"
-    feed.write_bytes((FEEDS / "one_block.feed").read_bytes()[:-1])
-    check_refused("a feed that is cut off", ["ledger", CONFIG, feed], "feed form")
-
-
 def check_configurations(folder):
     def of(name, text):
         path = folder / name
