@@ -48,6 +48,7 @@ mod genesis;
 mod heads;
 mod holdings;
 mod judging;
+pub mod laws;
 mod ledger;
 mod lookups;
 mod owned;
@@ -58,6 +59,7 @@ mod proving;
 mod settling;
 mod sums;
 mod transactions;
+mod typed;
 mod unlocking;
 
 pub use fact::{Deed, Fact};
