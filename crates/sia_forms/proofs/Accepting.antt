@@ -1,23 +1,21 @@
 -- What a plan makes is what the host asks for.
-use Rattle.std.proofs.Common.{◌≡◌, ℕ, ◌+◌, ◌-◌, ◌<◌, ◌≤◌, Bool, true, false, not, List, [], ◌∷◌, Option, None, Result, Ok, Err, refl, ap, subst, ◌∙◌, arith, eq-eqb, lt-ltb}
+use Rattle.std.proofs.Common.{◌≡◌, ℕ, ◌+◌, ◌-◌, ◌≤◌, Bool, true, not, List, None, Ok, refl, ap, ◌∙◌, arith, eq-eqb, lt-ltb}
 use Rattle.std.proofs.lemmas.Bool.{le-leb}
 use Rattle.std.proofs.lemmas.Slice.Eq.{bytes_eq-Decides}
-use Rattle.std.specs.Prelude.{nat_lt, nat_le, ◌==◌, ◌&&◌}
+use Rattle.std.specs.Prelude.{nat_le, ◌==◌, ◌&&◌}
 use Rattle.std.specs.Str.{bytes_eq}
-use Rattle.sia_encoding.specs.Answer.{◌>>=◌, unless}
 use Rattle.sia_encoding.specs.Firsts.{broken, ◌or_else◌}
 use Rattle.sia_types.specs.declared.coin.Coin.{Coin}
 use Rattle.sia_types.specs.declared.file_contracts.Revision.{Revision}
 use Rattle.sia_types.specs.declared.settings.Settings.{Settings}
 use Rattle.sia_types.specs.declared.transaction.Transaction.{Transaction}
 use Rattle.sia_types.specs.FileContracts.{revision}
-use Rattle.sia_forms.specs.declared.fault.FormFault.{FormFault}
 use Rattle.sia_forms.specs.declared.fault.FormFault.TheVariants as form_fault
 use Rattle.sia_forms.specs.declared.plan.FormPlan.{FormPlan}
 use Rattle.sia_forms.specs.declared.plan.Outset.{Outset}
 use Rattle.sia_forms.specs.Building.{IsBuilt, KeepsLimits, form_outset, planned_contract, planned_transaction, renew_outset}
-use Rattle.sia_forms.specs.Checks.{Asked, begins_with, collateral_within, contract_answer, form_answer, pays_host, renew_answer, terms_fault}
-use Rattle.sia_forms.specs.Parties.{both_address, own_address, zero_hash}
+use Rattle.sia_forms.specs.Checks.{collateral_within, contract_answer, form_answer, renew_answer, terms_fault}
+use Rattle.sia_forms.specs.Parties.{both_address, own_address}
 use Rattle.sia_forms.specs.Renewing.{clearing, least_renewed, risk_of}
 
 -- tests that pass
@@ -57,9 +55,9 @@ pub contract_accepted : (plan : FormPlan) (s : Settings) (outset : Outset) (rent
 unfolding contract_answer terms_fault planned_contract
 contract_accepted plan s outset renter_key payout least keeps value =
     rw (no_fault _ _ _ (form_fault.BadContract 1) (form_fault.BadContract 2) (form_fault.BadContract 3)
-      (all_of_four _ _ _ _ (same_number outset.size) (same_bytes outset.root) refl (same_bytes (both_address renter_key s.host_key)))
-      (all_of_seven _ _ _ _ _ _ _ (same_bytes (own_address renter_key)) (same_bytes s.address) (same_bytes s.address) refl (same_number plan.amount) (same_number (outset.host_value - outset.risk)) (same_number outset.risk))
-      (all_of_three _ _ _ (lt-ltb _ _ keeps.later) (le-leb _ _ keeps.longer) (le-leb _ _ keeps.sooner)))
+    (all_of_four _ _ _ _ (same_number outset.size) (same_bytes outset.root) refl (same_bytes (both_address renter_key s.host_key)))
+    (all_of_seven _ _ _ _ _ _ _ (same_bytes (own_address renter_key)) (same_bytes s.address) (same_bytes s.address) refl (same_number plan.amount) (same_number (outset.host_value - outset.risk)) (same_number outset.risk))
+    (all_of_three _ _ _ (lt-ltb _ _ keeps.later) (le-leb _ _ keeps.longer) (le-leb _ _ keeps.sooner)))
     (ap (collateral_within s least) value ∙ collateral_kept s least plan.collateral keeps.collateral)
 
 -- what forms

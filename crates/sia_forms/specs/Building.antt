@@ -47,14 +47,14 @@ planned_contract plan s outset renter_key payout = record {
   end = plan.end;
   payout = payout;
   valid =
-    output plan.amount (own_address renter_key)
-    ∷ output outset.host_value s.address
-    ∷ [];
+      output plan.amount (own_address renter_key)
+      ∷ output outset.host_value s.address
+      ∷ [];
   missed =
-    output plan.amount (own_address renter_key)
-    ∷ output (outset.host_value - outset.risk) s.address
-    ∷ output outset.risk zero_hash
-    ∷ [];
+      output plan.amount (own_address renter_key)
+      ∷ output (outset.host_value - outset.risk) s.address
+      ∷ output outset.risk zero_hash
+      ∷ [];
   address = both_address renter_key s.host_key;
   number = 0;
 }

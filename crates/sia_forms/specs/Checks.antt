@@ -1,6 +1,6 @@
 -- What a host asks of the transaction that forms or renews a contract (siad's modules/host/negotiateformcontract.go and
 -- negotiaterenewcontract.go; Sia whitepaper).
-use Rattle.std.specs.Prelude.{ℕ, ◌+◌, ◌-◌, Bool, true, false, List, [], ◌∷◌, length, nat_lt, nat_le, ◌==◌, ◌||◌, ◌&&◌, not, Option, Some, None, Result, Ok, Err}
+use Rattle.std.specs.Prelude.{ℕ, ◌+◌, ◌-◌, Bool, true, false, List, [], ◌∷◌, length, nat_lt, nat_le, ◌==◌, ◌&&◌, not, Option, Some, None, Result, Ok, Err}
 use Rattle.std.specs.Str.{bytes_eq}
 use Rattle.sia_encoding.specs.Answer.{◌>>=◌, unless}
 use Rattle.sia_encoding.specs.Codec.{Codec}

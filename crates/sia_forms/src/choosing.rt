@@ -31,11 +31,7 @@ pub(crate) struct Choice {
 }
 
 /// The coins that are chosen for a need.
-pub(crate) fn choose_coins(
-    alloc: Global,
-    coins: &[Coin],
-    need: u128,
-) -> Result<Choice, FormFault>
+pub(crate) fn choose_coins(alloc: Global, coins: &[Coin], need: u128) -> Result<Choice, FormFault>
     ensures chosen { IfOk result (λ choice. AreChosen coins.now need choice.coins.items) }
     ensures change { IfOk result (λ choice. need + choice.change ≡ worth_of choice.coins.items) }
     ensures refused { IfErr result (IsShort coins.now need) }

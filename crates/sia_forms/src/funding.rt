@@ -108,11 +108,7 @@ fn input(alloc: Global, coin: &Coin, key: &[u8; 32]) -> Result<CoinInput, AllocE
 }
 
 // The output that gives back a change, and none of value 0.
-fn change_of(
-    alloc: Global,
-    value: u128,
-    address: &Hash,
-) -> Result<List<CoinOutput>, AllocError>
+fn change_of(alloc: Global, value: u128, address: &Hash) -> Result<List<CoinOutput>, AllocError>
     ensures { IfOk result (λ outputs. outputs ≡ output_of_some value address.now) }
 {
     let mut outputs = List::new(alloc);
