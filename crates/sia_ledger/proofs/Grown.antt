@@ -181,5 +181,5 @@ pub kept_applied : (accepts : List ℕ → List ℕ → List ℕ → Bool) (chai
     → IsKept (extended chain block) (ids ++ block_id block ∷ []) (facts ++ made) (marks ++ length facts ∷ [])
 kept_applied accepts chain ids facts marks block made was typed ok is =
     kept_more accepts chain ids facts marks block made was typed
-        (ap (λ (s : State). verdict accepts chain.maturity s block) (sym was.state) ∙ unless_ok (refusal accepts chain block) ok)
-        (ap (λ (s : State). s.facts ++ made) (sym was.state) ∙ is ∙ ap (λ (s : State). (done_by chain.maturity block s).facts) was.state)
+    (ap (λ (s : State). verdict accepts chain.maturity s block) (sym was.state) ∙ unless_ok (refusal accepts chain block) ok)
+    (ap (λ (s : State). s.facts ++ made) (sym was.state) ∙ is ∙ ap (λ (s : State). (done_by chain.maturity block s).facts) was.state)

@@ -4,8 +4,8 @@ ghost use Rattle.sia_encoding.specs.Codec.{AreBytes};
 
 use sia_encoding::{Blob, Item, List};
 use sia_types::{
-    Block, CoinInput, CoinOutput, Covered, FileContract, FundInput, FundOutput, PublicKey, Revision,
-    Signature, StorageProof, Transaction, UnlockConditions,
+    Block, CoinInput, CoinOutput, Covered, FileContract, FundInput, FundOutput, PublicKey,
+    Revision, Signature, StorageProof, Transaction, UnlockConditions,
 };
 
 /// A value whose parts are of their types: integers and bytes, arrays and lists have the sizes that Rust gives them.

@@ -8,4 +8,4 @@ pub returns-clause-twice : goal.returns-clause-twice
 returns-clause-twice g c =
     rw (← c.self.view_is)
     (judges_twice g.C.SigCheck.verdict c.judge.result _ _ _ _ c.args.block.now c.self.invariant c.know.ensures
-        (rw (c.base.ensures.state, ← c.self.view_is) at c.judge.ensures.judged))
+    (rw (c.base.ensures.state, ← c.self.view_is) at c.judge.ensures.judged))
