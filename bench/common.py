@@ -22,6 +22,12 @@ def build_bench():
     return folder / "out" / "sia_bench"
 
 
+def has_kernel(program, name):
+    """Whether sia_bench has a kernel of this name; it tells them where its words are wrong."""
+    told = subprocess.run([program], stdin=subprocess.DEVNULL, stdout=subprocess.PIPE, stderr=subprocess.STDOUT).stdout.decode()
+    return f" {name} " in f" {told} "
+
+
 def build_program():
     """Proves and builds the program as the gate does, for any processor, unless it is there, and gives its path."""
     folder = TOP / "crates" / "sia_v1"
