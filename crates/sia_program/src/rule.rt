@@ -1,9 +1,9 @@
 //! A rule of blocks that is broken.
 ghost use Rattle.std.specs.Prelude.{◌≡◌, ◌≢◌};
-ghost use Rattle.sia_ledger.specs.declared.fault.BlockFault.TheVariants as block_fault;
+ghost use Rattle.sia_rules.specs.declared.fault.BlockFault.TheVariants as block_fault;
 ghost use Rattle.sia_program.specs.Told.{rule_told};
 
-use sia_ledger::BlockFault;
+use sia_rules::BlockFault;
 use std::marker::Model;
 
 /// The rule that a block breaks: any fault of a block but want of memory. Contracts see it as that fault.
@@ -14,8 +14,8 @@ pub struct BrokenRule {
 
 impl Model for BrokenRule {
     ghost use Rattle.std.specs.Prelude.{◌≢◌};
-    ghost use Rattle.sia_ledger.specs.declared.fault.BlockFault.{BlockFault};
-    ghost use Rattle.sia_ledger.specs.declared.fault.BlockFault.TheVariants as block_fault;
+    ghost use Rattle.sia_rules.specs.declared.fault.BlockFault.{BlockFault};
+    ghost use Rattle.sia_rules.specs.declared.fault.BlockFault.TheVariants as block_fault;
 
     ghost Value = { BlockFault };
 
