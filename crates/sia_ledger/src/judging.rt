@@ -1,86 +1,139 @@
-//! Whether a block may follow, and whether a chain may begin.
-ghost use Rattle.std.specs.Prelude.{◌≡◌, ◌≤◌, ◌^◌, IfOk};
+//! Whether a block may follow, and what it makes and does.
+ghost use Rattle.std.specs.Prelude.{◌≡◌, ◌<◌, ◌≤◌, ◌^◌, ◌++◌, length, None, IfOk, OnOk};
 ghost use Rattle.sia_encoding.specs.Answer.{Answers, unless};
-ghost use Rattle.sia_ledger.specs.Answers.{block_told, genesis_told};
-ghost use Rattle.sia_ledger.specs.Facts.{block_facts};
+ghost use Rattle.sia_encoding.specs.Firsts.{first_at, ◌or_else◌};
 ghost use Rattle.sia_ids.specs.Identifiers.{block_id as block_id_of};
-ghost use Rattle.sia_ledger.specs.Refusal.{verdict, genesis_refusal};
+ghost use Rattle.sia_rules.specs.Answers.{block_told};
+ghost use Rattle.sia_rules.specs.Values.{sum_too_large, value_fault};
+ghost use Rattle.sia_ledger.specs.Blocks.{done_by, with_block};
+ghost use Rattle.sia_ledger.specs.Bounded.{IsBounded};
+ghost use Rattle.sia_ledger.specs.Known.{state_in};
+ghost use Rattle.sia_ledger.specs.State.{next};
+ghost use Rattle.sia_ledger.specs.Refusal.{transaction_refusal, transactions_refusal, verdict};
 
-use crate::amounts::{has_empty_fund, has_empty_payout, sum_of_funds, sum_of_payouts};
-use crate::fact::Fact;
-use crate::fault::{BlockFault, GenesisFault};
-use crate::made::repeated_id;
-use crate::making::facts_of_block;
-use crate::params::Params;
+use crate::base::Base;
+use crate::draft::Draft;
+use crate::effects::pay_miners;
+use crate::fact::{Deed, Fact};
+use crate::heads::{
+    check_all_values, check_height, check_parent, check_payouts, check_size, check_sums,
+};
+use crate::settling::settle_missed;
+use crate::transactions::{judge_transaction, take_each};
 use sia_blake::Hash;
 use sia_encoding::List;
 use sia_ids::block_id;
-use sia_rules::{FUND_COUNT, subsidy};
-use sia_types::Block;
-use std::alloc::Global;
+use sia_rules::{BlockFault, values};
+use sia_sign::SigCheck;
+use sia_types::{Block, Transaction};
+use std::alloc::{AllocError, Global};
 
-/// The greatest height of a block.
-const LAST_HEIGHT: u64 = 0xFFFF_FFFF;
-
-/// The longest that a miner payout may rest, in blocks.
-const LONGEST_MATURITY: u64 = 10_000;
-
-/// What a new block makes, and its identifier.
+/// What a new block makes and does, and its identifier.
 #[derive(Drop)]
 pub(crate) struct Judged {
     pub id: Hash,
     pub made: List<Fact>,
 }
 
-/// Judges a block at a height, on a tip and behind what its chain has made: what it makes, or the first rule that it
-/// breaks.
-#[tactic(auto, unfolding(crate::specs::Refusal::verdict))]
-pub(crate) fn judge(
+/// Judges a block: what it makes and does, or the first rule that it breaks.
+#[tactic(auto, unfolding(crate::specs::Refusal::verdict, crate::specs::Refusal::same_id))]
+pub(crate) fn judge<C: SigCheck>(
     alloc: Global,
-    tip: &Hash,
     maturity: u64,
-    height: u64,
-    kept: &[Fact],
+    base: &Base<'_>,
     block: &Block,
+    check: &C,
 ) -> Result<Judged, BlockFault>
-    requires maturity { maturity ≤ 10000 }
-    requires height { height ≤ 2 ^ 32 }
-    ensures judged { Answers (λ _. tt) block_told result (unless (verdict tip.now maturity height kept.now block.now)) }
+    requires named { 0 < next base.now }
+    requires low { next base.now ≤ 2 ^ 32 }
+    requires rested { maturity ≤ 10000 }
+    requires bounded { IsBounded (with_block block.now base.now) }
+    ensures judged { Answers (λ _. tt) block_told result (unless (verdict C.verdict maturity base.now block.now)) }
     ensures id { IfOk result (λ judged. judged.id ≡ block_id_of block.now) }
-    ensures made { IfOk result (λ judged. judged.made ≡ block_facts maturity height block.now) }
+    ensures made { IfOk result (λ judged. base.now.facts ++ judged.made ≡ (done_by maturity block.now base.now).facts) }
 {
-    if block.parent != *tip {
-        let tip = *tip;
-        return Err(BlockFault::BadParent { tip });
-    }
-    if height > LAST_HEIGHT {
-        return Err(BlockFault::HeightEnd);
-    }
-    let payouts = block.payouts.as_slice();
-    let need = subsidy(height);
-    let got = sum_of_payouts(payouts);
-    if got != need || has_empty_payout(payouts) {
-        return Err(BlockFault::PayoutSum { need, got });
-    }
+    check_parent(base, block)?;
+    check_size(alloc, block)?;
+    check_height(base)?;
+    let payouts = check_sums(base, block)?;
+    check_all_values(block)?;
+    check_payouts(base, block, &payouts)?;
     let id = block_id(alloc, block)?;
-    let made = facts_of_block(alloc, maturity, height, &id, block)?;
-    match repeated_id(kept, made.as_slice()) {
+    let draft = do_block(alloc, maturity, base, &id, block, check)?;
+    let (made, twice) = draft.finish();
+    match twice {
         Some(id) => Err(BlockFault::SameId { id }),
         None => Ok(Judged { id, made }),
     }
 }
 
-/// Whether a chain may begin from the parameters.
-pub(crate) fn check_params(params: &Params) -> Result<(), GenesisFault>
-    ensures { Answers (λ _. tt) genesis_told result (unless (genesis_refusal params.now)) }
+// What is known behind a block, or the first rule that one of its transactions breaks.
+#[tactic(auto, unfolding(crate::specs::Blocks::done_by))]
+fn do_block<'a, C: SigCheck>(
+    alloc: Global,
+    maturity: u64,
+    base: &Base<'a>,
+    id: &Hash,
+    block: &Block,
+    check: &C,
+) -> Result<Draft<'a>, BlockFault>
+    requires named { 0 < next base.now }
+    requires low { next base.now ≤ 2 ^ 32 }
+    requires rested { maturity ≤ 10000 }
+    requires id { id.now ≡ block_id_of block.now }
+    requires bounded { IsBounded (with_block block.now base.now) }
+    requires sums { first_at sum_too_large 0 block.now.transactions ≡ None }
+    ensures judged { Answers (λ _. tt) block_told result (unless (transactions_refusal C.verdict maturity (with_block block.now base.now) 0 block.now.transactions)) }
+    ensures done { IfOk result (λ draft. state_in draft ≡ done_by maturity block.now base.now) }
+    ensures kept { IfOk result (λ draft. draft.kept ≡ base.now.facts) }
 {
-    let funds = params.funds.as_slice();
-    let got = sum_of_funds(funds);
-    if got != FUND_COUNT || has_empty_fund(funds) {
-        return Err(GenesisFault::FundSum { got });
-    }
-    if params.maturity < 1 || params.maturity > LONGEST_MATURITY {
-        return Err(GenesisFault::Maturity);
-    }
-    Ok(())
+    let mut draft = begin_block(alloc, base, id, block)?;
+    take_each(
+        alloc,
+        &mut draft,
+        maturity,
+        block.transactions.as_slice(),
+        check,
+    )?;
+    settle_missed(alloc, &mut draft, maturity)?;
+    pay_miners(&mut draft, maturity, id, block)?;
+    Ok(draft)
+}
+
+// What is known once a block has made its own identifier.
+#[tactic(auto, unfolding(crate::specs::Blocks::with_block))]
+fn begin_block<'a>(
+    alloc: Global,
+    base: &Base<'a>,
+    id: &Hash,
+    _block: &Block,
+) -> Result<Draft<'a>, AllocError>
+    requires { id.now ≡ block_id_of _block.now }
+    ensures begun { IfOk result (λ draft. state_in draft ≡ with_block _block.now base.now) }
+    ensures kept { IfOk result (λ draft. draft.kept ≡ base.now.facts) }
+    ensures ids { IfOk result (λ draft. draft.ids ≡ base.now.ids) }
+{
+    let mut draft = Draft::begin(alloc, base);
+    let own = *id;
+    draft.add(Fact {
+        id: own,
+        deed: Deed::Block,
+    })?;
+    Ok(draft)
+}
+
+/// The first rule that a transaction alone breaks, as the first one of a next block.
+pub(crate) fn judge_alone<C: SigCheck>(
+    alloc: Global,
+    base: &Base<'_>,
+    tx: &Transaction,
+    check: &C,
+) -> Result<(), BlockFault>
+    requires named { 0 < next base.now }
+    requires bounded { IsBounded base.now }
+    ensures { Answers (λ _. tt) block_told result (unless (value_fault 0 tx.now or_else transaction_refusal C.verdict base.now 0 tx.now)) }
+{
+    values(tx, 0)?;
+    let draft = Draft::begin(alloc, base);
+    judge_transaction(alloc, &draft, 0, tx, check)
 }

@@ -1,29 +1,38 @@
 //! The ledger: a chain, and what is kept of it.
-ghost use Rattle.std.specs.Prelude.{◌≡◌, ℕ, ◌+◌, ◌<◌, ◌^◌, ◌↔◌, List as Sequence, length, Err, IfOk, IfErr, OnOk, OnErr};
-ghost use Rattle.sia_ledger.specs.declared.fault.BlockFault.TheVariants as block_fault;
-ghost use Rattle.sia_ledger.specs.declared.fault.RevertFault.TheVariants as revert_fault;
+ghost use Rattle.std.specs.Prelude.{◌≡◌, ◌+◌, ◌<◌, ◌≤◌, ◌^◌, ◌↔◌, ◌++◌, Err, IfOk, OnOk, OnErr};
 ghost use Rattle.sia_encoding.specs.Answer.{Answers, unless};
-ghost use Rattle.sia_ledger.specs.Answers.{block_told, genesis_told};
-ghost use Rattle.sia_ledger.specs.Chain.{height, begun, extended, shortened};
-ghost use Rattle.sia_ledger.specs.Facts.{block_facts};
 ghost use Rattle.sia_ids.specs.Identifiers.{block_id};
-ghost use Rattle.sia_ledger.specs.Holdings.{tip, id_at, sums_of};
-ghost use Rattle.sia_ledger.specs.Refusal.{refusal, genesis_refusal};
-ghost use Rattle.sia_ledger.specs.Texts.{IsMadeTwice};
+ghost use Rattle.sia_rules.specs.Answers.{block_told};
+ghost use Rattle.sia_ledger.specs.declared.fault.RevertFault.TheVariants as revert_fault;
+ghost use Rattle.sia_ledger.specs.Answers.{genesis_told};
+ghost use Rattle.sia_ledger.specs.Blocks.{done_by, facts, state_of, with_block};
+ghost use Rattle.sia_ledger.specs.Bounded.{IsBounded, Totals};
+ghost use Rattle.sia_ledger.specs.Chain.{begun, extended, height, shortened};
+ghost use Rattle.sia_ledger.specs.Genesis.{genesis_refusal};
+ghost use Rattle.sia_ledger.specs.Holdings.{coins_at, id_at, ids, status_of, sums_of, terms_of, tip};
+ghost use Rattle.sia_ledger.specs.Refusal.{refusal, set_refusal};
+ghost use Rattle.sia_ledger.specs.State.{next};
 
+use crate::base::Base;
 use crate::fact::Fact;
-use crate::fault::{BlockFault, GenesisFault, RevertFault};
-use crate::judging::{Judged, check_params, judge};
-use crate::made::repeated_id;
-use crate::making::facts_of_genesis;
-use crate::params::{Params, know_sizes};
+use crate::fault::{GenesisFault, RevertFault};
+use crate::genesis::{check_params, make_genesis};
+use crate::holdings::{
+    sum_of_claims, sum_of_escrow, sum_of_immature, sum_of_outputs, sum_of_taxes,
+};
+use crate::judging::{Judged, judge, judge_alone};
+use crate::owned::owned_by;
+use crate::params::Params;
 use crate::parts::{drop_block, push_block};
-use crate::sums::{Sums, coin_sum, resting_sum};
+use crate::sums::{Status, Sums};
+use crate::present::{status_among, terms_among};
 use sia_blake::Hash;
 use sia_encoding::{List, Steps};
 use sia_ids::genesis_id;
-use sia_types::{Block, FundOutput, Item};
-use std::alloc::Global;
+use sia_rules::BlockFault;
+use sia_sign::SigCheck;
+use sia_types::{Block, Coin, FundOutput, Item, Terms, Transaction};
+use std::alloc::{AllocError, Global};
 use std::marker::Model;
 use std::sync::ledger::Ledger as StepBook;
 
@@ -38,8 +47,10 @@ pub struct Ledger {
     blocks: List<Block>,
     /// The identifiers of the genesis and of each block, by height.
     ids: List<Hash>,
-    /// What the genesis and the blocks made, in order.
+    /// What the genesis and the blocks made and did, in order.
     facts: List<Fact>,
+    /// How many facts stood before each block.
+    marks: List<u64>,
 }
 
 impl Model for Ledger {
@@ -51,7 +62,7 @@ impl Model for Ledger {
 
     ghost view = { λ l. record { maturity = l.maturity; funds = l.funds; blocks = l.blocks } };
 
-    ghost invariant = { λ l. IsKept (record { maturity = l.maturity; funds = l.funds; blocks = l.blocks }) l.ids l.facts };
+    ghost invariant = { λ l. IsKept (record { maturity = l.maturity; funds = l.funds; blocks = l.blocks }) l.ids l.facts l.marks };
 }
 
 impl Ledger {
@@ -67,17 +78,18 @@ impl Ledger {
         check_params(&params)?;
         let Params { maturity, funds } = params;
         let id = genesis_id(alloc, funds.as_slice())?;
-        let facts = facts_of_genesis(alloc, &id, funds.as_slice())?;
-        let ids = List::from_slice(alloc, &[id])?;
-        if repeated_id(&[], facts.as_slice()).is_some() {
+        let begun = make_genesis(alloc, &id, funds.as_slice())?;
+        if begun.twice.is_some() {
             return Err(GenesisFault::Memory);
         }
+        let ids = List::from_slice(alloc, &[id])?;
         Ok(Ledger {
             maturity,
             funds,
             blocks: List::new(alloc),
             ids,
-            facts,
+            facts: begun.made,
+            marks: List::new(alloc),
         })
     }
 
@@ -85,18 +97,18 @@ impl Ledger {
     ///
     /// # Errors
     /// Exactly the first rule that the block breaks, or want of memory.
-    pub fn check_block<L: StepBook>(
+    pub fn check_block<C: SigCheck, L: StepBook>(
         &self,
         alloc: Global,
         block: &Block,
+        check: &C,
         steps: &mut Steps<L>,
     ) -> Result<(), BlockFault>
-        ensures judged { Answers (λ _. tt) block_told result (unless (refusal self.now block.now)) }
-        ensures twice { IfErr result (λ fault. (id : Sequence ℕ) → fault ≡ block_fault.SameId id → IsMadeTwice (extended self.now block.now) id) }
+        ensures judged { Answers (λ _. tt) block_told result (unless (refusal C.verdict self.now block.now)) }
         ensures counted { steps.new ≡ steps.old + 1 }
     {
         steps.tick();
-        self.judge(alloc, block)?;
+        self.judge(alloc, block, check)?;
         Ok(())
     }
 
@@ -104,32 +116,33 @@ impl Ledger {
     ///
     /// # Errors
     /// Exactly the first rule that the block breaks, or want of memory.
-    pub fn apply<L: StepBook>(
+    pub fn apply<C: SigCheck, L: StepBook>(
         &mut self,
         alloc: Global,
         block: &Block,
+        check: &C,
         steps: &mut Steps<L>,
     ) -> Result<(), BlockFault>
-        ensures judged { Answers (λ _. tt) block_told result (unless (refusal self.old block.now)) }
+        ensures judged { Answers (λ _. tt) block_told result (unless (refusal C.verdict self.old block.now)) }
         ensures applied { OnOk result (self.new ≡ extended self.old block.now) }
         ensures unchanged { OnErr result (self.new ≡ self.old) }
-        ensures twice { IfErr result (λ fault. (id : Sequence ℕ) → fault ≡ block_fault.SameId id → IsMadeTwice (extended self.old block.now) id) }
         ensures counted { steps.new ≡ steps.old + 1 }
     {
         steps.tick();
-        let judged = self.judge(alloc, block)?;
+        let judged = self.judge(alloc, block, check)?;
         let copy = block.copy(alloc)?;
         push_block(
             &mut self.blocks,
             &mut self.ids,
             &mut self.facts,
+            &mut self.marks,
             copy,
             judged,
         )?;
         Ok(())
     }
 
-    /// Drops the last block and all that it made. It counts no step.
+    /// Drops the last block and all that it made and did. It counts no step.
     ///
     /// # Errors
     /// `NoBlock` exactly where the chain has no block.
@@ -141,11 +154,26 @@ impl Ledger {
     {
         match self.blocks.pop() {
             None => Err(RevertFault::NoBlock),
-            Some(block) => {
-                drop_block(&mut self.ids, &mut self.facts, &block);
+            Some(_) => {
+                drop_block(&mut self.ids, &mut self.facts, &mut self.marks);
                 Ok(())
             }
         }
+    }
+
+    /// Whether a transaction may stand in a next block, as its first.
+    ///
+    /// # Errors
+    /// Exactly the first rule that the transaction breaks, or want of memory.
+    pub fn check_set<C: SigCheck>(
+        &self,
+        alloc: Global,
+        tx: &Transaction,
+        check: &C,
+    ) -> Result<(), BlockFault>
+        ensures { Answers (λ _. tt) block_told result (unless (set_refusal C.verdict self.now tx.now)) }
+    {
+        judge_alone(alloc, &self.base(), tx, check)
     }
 
     /// What the chain holds.
@@ -153,64 +181,90 @@ impl Ledger {
         ensures exact { result ≡ sums_of self.now }
         ensures conserved { result.outputs + result.escrow + result.unclaimed ≡ result.issued }
     {
-        let height = self.blocks.len() as u64;
-        let facts = self.facts.as_slice();
-        let outputs = coin_sum(facts);
+        let height = self.height();
+        let base = self.base();
+        let facts = base.facts();
+        let outputs = sum_of_outputs(facts);
+        let escrow = sum_of_escrow(facts);
+        let unclaimed = sum_of_claims(facts);
         Sums {
             height,
             outputs,
-            immature: resting_sum(height + 1, facts),
-            escrow: 0,
-            pool: 0,
-            unclaimed: 0,
-            issued: outputs,
+            immature: sum_of_immature(height + 1, facts),
+            escrow,
+            pool: sum_of_taxes(facts),
+            unclaimed,
+            issued: outputs + escrow + unclaimed,
         }
+    }
+
+    /// The height of the last block; that of the genesis is 0.
+    pub fn height(&self) -> u64
+        ensures { result ≡ height self.now }
+    {
+        self.blocks.len() as u64
     }
 
     /// The identifier of the last block, or of the genesis where there is none.
     pub fn tip(&self) -> Hash
         ensures { result ≡ tip self.now }
     {
-        let ids = self.ids.as_slice();
-        ids[ids.len() - 1]
+        self.base().tip()
     }
 
     /// The identifier of the block at a height, the genesis being at 0; `None` above the height of the last block.
     pub fn block_at(&self, height: u64) -> Option<Hash>
         ensures { result ≡ id_at self.now height }
     {
-        self.ids.get(height as usize).copied()
+        self.base().ids().get(height as usize).copied()
     }
 
-    // What the block makes behind this chain, or the first rule that it breaks.
-    fn judge(&self, alloc: Global, block: &Block) -> Result<Judged, BlockFault>
-        ensures judged { Answers (λ _. tt) block_told result (unless (refusal self.now block.now)) }
-        ensures id { IfOk result (λ judged. judged.id ≡ block_id block.now) }
-        ensures made { IfOk result (λ judged. judged.made ≡ block_facts self.now.maturity (height self.now + 1) block.now) }
-        ensures nonce { length block.now.nonce ≡ 8 }
-        ensures few { length block.now.payouts < 2 ^ 64 }
-        ensures twice { IfErr result (λ fault. (id : Sequence ℕ) → fault ≡ block_fault.SameId id → IsMadeTwice (extended self.now block.now) id) }
+    /// How the contract with this identifier stands.
+    pub fn status(&self, contract: &Hash) -> Status
+        ensures exact { result ≡ status_of self.now contract.now }
     {
-        know_sizes(block);
-        let _kept = &self.facts;
-        self.judge_next(alloc, block)
+        status_among(self.base().facts(), contract)
     }
 
-    // The same, without what a second identifier shows.
-    fn judge_next(&self, alloc: Global, block: &Block) -> Result<Judged, BlockFault>
-        ensures judged { Answers (λ _. tt) block_told result (unless (refusal self.now block.now)) }
-        ensures id { IfOk result (λ judged. judged.id ≡ block_id block.now) }
-        ensures made { IfOk result (λ judged. judged.made ≡ block_facts self.now.maturity (height self.now + 1) block.now) }
+    /// The present terms of the running contract with this identifier; `None` where none runs. Its error is want of memory.
+    pub fn terms(&self, alloc: Global, contract: &Hash) -> Result<Option<Terms>, AllocError>
+        ensures { IfOk result (λ terms. terms ≡ terms_of self.now contract.now) }
     {
-        let tip = self.tip();
-        let height = self.blocks.len() as u64 + 1;
-        judge(
-            alloc,
-            &tip,
-            self.maturity,
-            height,
-            self.facts.as_slice(),
-            block,
-        )
+        terms_among(alloc, self.base().facts(), contract)
+    }
+
+    /// The live siacoin outputs at an address, by ascending identifiers. Its error is want of memory.
+    pub fn coins(&self, alloc: Global, address: &Hash) -> Result<List<Coin>, AllocError>
+        ensures { IfOk result (λ coins. coins ≡ coins_at self.now address.now) }
+    {
+        owned_by(alloc, address, self.base().facts())
+    }
+
+    // What is kept of the chain.
+    fn base(&self) -> Base<'_>
+        ensures state { result ≡ state_of self.now }
+        ensures ids { result.ids ≡ ids self.now }
+        ensures next { next result ≡ height self.now + 1 }
+        ensures low { height self.now < 2 ^ 32 }
+        ensures rested { self.now.maturity ≤ 10000 }
+        ensures bounded { IsBounded (state_of self.now) }
+        ensures within { (block : Block) → IsBounded (with_block block (state_of self.now)) }
+        ensures totals { Totals self.now (facts self.now) }
+    {
+        Base::new(self.ids.as_slice(), self.facts.as_slice())
+    }
+
+    // What the block makes and does behind this chain, or the first rule that it breaks.
+    fn judge<C: SigCheck>(
+        &self,
+        alloc: Global,
+        block: &Block,
+        check: &C,
+    ) -> Result<Judged, BlockFault>
+        ensures judged { Answers (λ _. tt) block_told result (unless (refusal C.verdict self.now block.now)) }
+        ensures id { IfOk result (λ judged. judged.id ≡ block_id block.now) }
+        ensures made { IfOk result (λ judged. (state_of self.now).facts ++ judged.made ≡ (done_by self.now.maturity block.now (state_of self.now)).facts) }
+    {
+        judge(alloc, self.maturity, &self.base(), block, check)
     }
 }

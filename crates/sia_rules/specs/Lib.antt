@@ -1,1 +1,6 @@
 pub mod Amounts
+pub mod Answers
+pub mod Sums
+pub mod Values
+pub mod Shape
+pub mod FileContracts

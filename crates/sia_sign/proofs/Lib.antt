@@ -1,4 +1,4 @@
 mod Finding
-mod FirstFault
+pub mod FirstFault
 mod Missing
 mod Seals

@@ -34,6 +34,7 @@ mod seal;
 mod signed;
 
 pub use checking::check_signatures;
+pub use needs::Locked;
 pub use seal::{Seal, SealSigner};
 pub use sia_edge::{SigCheck, Signer};
 pub use sia_types::SigFault;

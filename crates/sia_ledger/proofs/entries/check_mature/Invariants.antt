@@ -1,0 +1,9 @@
+use Rattle.std.proofs.Common.{◌≡◌, drop}
+use Rattle.sia_encoding.specs.Firsts.{first_at}
+use Rattle.sia_ledger.specs.Known.{state_in}
+use Rattle.sia_ledger.specs.State.{next}
+use Rattle.sia_ledger.specs.Rules.{immature_coin}
+use Rattle.sia_ledger.proofs.entries.check_mature.Given as goal
+
+abbrev pub invariant-loop-i : goal.invariant-loop-i
+invariant-loop-i l = first_at (immature_coin (next (state_in l.draft)) (state_in l.draft).facts l.t) 0 l.inputs ≡ first_at (immature_coin (next (state_in l.draft)) (state_in l.draft).facts l.t) l.i (drop l.i l.inputs)

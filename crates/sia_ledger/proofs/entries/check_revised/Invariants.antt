@@ -1,0 +1,8 @@
+use Rattle.std.proofs.Common.{◌≡◌, drop}
+use Rattle.sia_encoding.specs.Firsts.{first_at}
+use Rattle.sia_ledger.specs.Known.{state_in}
+use Rattle.sia_ledger.specs.Rules.{unrevisable}
+use Rattle.sia_ledger.proofs.entries.check_revised.Given as goal
+
+abbrev pub invariant-loop-i : goal.invariant-loop-i
+invariant-loop-i l = first_at (unrevisable (state_in l.draft).facts l.t) 0 l.revisions ≡ first_at (unrevisable (state_in l.draft).facts l.t) l.i (drop l.i l.revisions)

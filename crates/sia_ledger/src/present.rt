@@ -1,0 +1,39 @@
+//! How a contract stands, and its present terms.
+ghost use Rattle.std.specs.Prelude.{◌≡◌, IfOk};
+ghost use Rattle.sia_ledger.specs.Facts.{terms_at};
+ghost use Rattle.sia_ledger.specs.Holdings.{contract_status};
+
+use crate::fact::{Deed, Fact};
+use crate::lookups::last_of;
+use crate::sums::Status;
+use sia_blake::Hash;
+use sia_types::Terms;
+use std::alloc::{AllocError, Global};
+
+/// How the contract with this identifier stands.
+pub(crate) fn status_among(facts: &[Fact], contract: &Hash) -> Status
+    ensures { result ≡ contract_status facts.now contract.now }
+{
+    match last_of(facts, contract) {
+        Some(Deed::Formed(_)) => Status::Running,
+        Some(Deed::Revised(_)) => Status::Running,
+        Some(Deed::Settled { valid: true }) => Status::Valid,
+        Some(Deed::Settled { valid: false }) => Status::Missed,
+        _ => Status::Unknown,
+    }
+}
+
+/// The terms of the running contract with this identifier. Its error is want of memory.
+pub(crate) fn terms_among(
+    alloc: Global,
+    facts: &[Fact],
+    contract: &Hash,
+) -> Result<Option<Terms>, AllocError>
+    ensures { IfOk result (λ terms. terms ≡ terms_at facts.now contract.now) }
+{
+    match last_of(facts, contract) {
+        Some(Deed::Formed(terms)) => Ok(Some(terms.copy(alloc)?)),
+        Some(Deed::Revised(terms)) => Ok(Some(terms.copy(alloc)?)),
+        _ => Ok(None),
+    }
+}
