@@ -3,13 +3,11 @@ use Rattle.std.proofs.Common.{◌≡◌, ℕ, suc, ◌+◌, ◌-◌, ◌<◌, tr
 use Rattle.sia_encoding.specs.Answer.{Answers}
 use Rattle.sia_encoding.specs.Reading.{Spot}
 use Rattle.sia_ledger.specs.Chain.{Chain}
-use Rattle.sia_program.specs.declared.feed.FeedRecord.{FeedRecord}
 use Rattle.sia_program.specs.declared.stop.Refusal.{Refusal}
 use Rattle.sia_program.specs.declared.stop.Refusal.TheVariants as refusal
 use Rattle.sia_program.specs.declared.stop.Fault.{Fault}
 use Rattle.sia_program.specs.declared.stop.Fault.TheVariants as fault
-use Rattle.sia_program.specs.Commands.Ledger.{Verdict, after_record, run_at}
-use Rattle.sia_program.specs.Feed.{record_at}
+use Rattle.sia_program.specs.Commands.Ledger.{Verdict, done_at, run_at}
 use Rattle.sia_program.specs.Told.{refusal_told}
 
 -- no byte is left
@@ -20,31 +18,20 @@ run_end verdict n i s chain below none =
     rw (one, none) refl
 
 -- one more record is read and done
-pub run_more : (verdict : Verdict) (n i : ℕ) (s next : Spot) (chain now : Chain) (first : FeedRecord) → i < n → (length s.left == 0) ≡ false → record_at s ≡ Ok (first, next) → after_record verdict chain first ≡ Ok now
-    → run_at verdict (n - (i + 1)) next now ≡ run_at verdict (n - i) s chain
+pub run_more : (verdict : Verdict) (n i : ℕ) (s next : Spot) (chain now : Chain) → i < n → (length s.left == 0) ≡ false → done_at verdict s chain ≡ Ok (now, next) → run_at verdict (n - (i + 1)) next now ≡ run_at verdict (n - i) s chain
 unfolding run_at
-run_more verdict n i s next chain now first below some read done =
+run_more verdict n i s next chain now below some done =
     let one : n - i ≡ suc (n - (i + 1)) = omega arith in
-    rw (one, some, read, done) refl
+    rw (one, some, done) refl
 
--- a record can't be read, or memory ran out
-pub run_unread : (verdict : Verdict) (n i : ℕ) (s : Spot) (chain now : Chain) (view : FeedRecord → FeedRecord × Spot) (met : Fault) (whole : Result Chain Refusal) → i < n → (length s.left == 0) ≡ false
-    → run_at verdict (n - i) s chain ≡ whole → Answers view refusal_told (Err met) (record_at s) → Answers {X = Unit {0}} (λ _. now) refusal_told (Err met) whole
+-- a record can't be read or is refused, or memory ran out
+pub run_stopped : (verdict : Verdict) (n i : ℕ) (s next : Spot) (chain now left : Chain) (met : Fault) (whole : Result Chain Refusal) → i < n → (length s.left == 0) ≡ false
+    → run_at verdict (n - i) s chain ≡ whole → Answers {X = Unit {0}} (λ _. (now, next)) refusal_told (Err met) (done_at verdict s chain) → Answers {X = Unit {0}} (λ _. left) refusal_told (Err met) whole
 unfolding run_at
-run_unread verdict n i s chain now view fault.Memory whole below some is read = tt
-run_unread verdict n i s chain now view (fault.Refused case) whole below some is read =
+run_stopped verdict n i s next chain now left fault.Memory whole below some is done = tt
+run_stopped verdict n i s next chain now left (fault.Refused case) whole below some is done =
     let one : n - i ≡ suc (n - (i + 1)) = omega arith in
-    let refused : run_at verdict (n - i) s chain ≡ Err case = rw (one, some, read) refl in
-    sym is ∙ refused
-
--- a record is refused, or memory ran out
-pub run_refused : (verdict : Verdict) (n i : ℕ) (s next : Spot) (chain now : Chain) (first : FeedRecord) (met : Fault) (whole : Result Chain Refusal) → i < n → (length s.left == 0) ≡ false
-    → run_at verdict (n - i) s chain ≡ whole → record_at s ≡ Ok (first, next) → Answers {X = Unit {0}} (λ _. now) refusal_told (Err met) (after_record verdict chain first) → Answers {X = Unit {0}} (λ _. now) refusal_told (Err met) whole
-unfolding run_at
-run_refused verdict n i s next chain now first fault.Memory whole below some is read done = tt
-run_refused verdict n i s next chain now first (fault.Refused case) whole below some is read done =
-    let one : n - i ≡ suc (n - (i + 1)) = omega arith in
-    let refused : run_at verdict (n - i) s chain ≡ Err case = rw (one, some, read, done) refl in
+    let refused : run_at verdict (n - i) s chain ≡ Err case = rw (one, some, done) refl in
     sym is ∙ refused
 
 -- there are more records than may be

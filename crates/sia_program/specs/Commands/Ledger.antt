@@ -56,15 +56,21 @@ abbrev pub after_record : Verdict → Chain → FeedRecord → Result Chain Refu
 after_record verdict chain (feed_record.Apply block) = applied verdict chain block
 after_record verdict chain feed_record.Revert = reverted chain
 
+-- the next record of a feed, read and then done
+unfoldable pub done_at : Verdict → Spot → Chain → Result (Chain × Spot) Refusal
+done_at verdict s chain = do
+  first ← record_at s
+  next ← after_record verdict chain first.0
+  Ok (next, first.1)
+
 -- What a feed makes of a chain from a spot on: each record is read and then done, and the first that can't be read or is refused
 -- decides. There are at most so many records less one.
 unfoldable pub run_at : Verdict → ℕ → Spot → Chain → Result Chain Refusal
 run_at verdict zero s chain = Err (refusal.Feed s.at)
 run_at verdict (suc most) s chain =
     if length s.left == 0 then Ok chain else do
-      first ← record_at s
-      next ← after_record verdict chain first.0
-      run_at verdict most first.1 next
+      next ← done_at verdict s chain
+      run_at verdict most next.1 next.0
 
 -- what a whole feed makes of a chain. A record has at least one byte, so there are no more records than bytes.
 unfoldable pub run : Verdict → Chain → List ℕ → Result Chain Refusal

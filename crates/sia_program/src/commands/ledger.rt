@@ -5,7 +5,7 @@ ghost use Rattle.sia_encoding.specs.Answer.{Answers};
 ghost use Rattle.sia_ledger.specs.Chain.{begun};
 ghost use Rattle.sia_ledger.specs.Genesis.{genesis_refusal};
 ghost use Rattle.sia_program.specs.Answer.{ReadToEnd};
-ghost use Rattle.sia_program.specs.Commands.Ledger.{applied, begin, finish, ledger_outcome, after_record, reverted, run};
+ghost use Rattle.sia_program.specs.Commands.Ledger.{after_record, applied, begin, done_at, finish, ledger_outcome, reverted, run};
 ghost use Rattle.sia_program.specs.Commands.Ledger.{ledger_form as ledger_form_of, sums_text as sums_text_of};
 ghost use Rattle.sia_program.specs.Outcome.{given_both};
 ghost use Rattle.sia_program.specs.Told.{refusal_told, stop_told};
@@ -109,6 +109,21 @@ fn follow<C: SigCheck, L: StepBook>(
     }
 }
 
+/// Reads the next record of a feed, and does it.
+#[tactic(auto, unfolding(crate::specs::Commands::Ledger::done_at))]
+fn do_record<C: SigCheck, L: StepBook>(
+    alloc: Global,
+    ledger: &mut Ledger,
+    cursor: &mut Cursor,
+    check: &C,
+    steps: &mut Steps<L>,
+) -> Result<(), Fault>
+    ensures { Answers (λ _. (ledger.new, cursor.new)) refusal_told result (done_at C.verdict cursor.old ledger.old) }
+{
+    let record = take_record(alloc, cursor)?;
+    follow(alloc, ledger, &record, check, steps)
+}
+
 /// Reads and does the records of a feed in turn, up to the first that can't be read or is refused.
 fn run_counted<C: SigCheck, L: StepBook>(
     alloc: Global,
@@ -128,12 +143,9 @@ fn run_counted<C: SigCheck, L: StepBook>(
         if is_at_end(&cursor) {
             return Ok(());
         }
-        match take_record(alloc, &mut cursor) {
-            Ok(record) => match follow(alloc, ledger, &record, check, &mut steps) {
-                Ok(()) => {}
-                Err(refused) => return Err(refused),
-            },
-            Err(unread) => return Err(unread),
+        match do_record(alloc, ledger, &mut cursor, check, &mut steps) {
+            Ok(()) => {}
+            Err(fault) => return Err(fault),
         }
     }
     Err(Fault::Refused(Refusal::Feed { at: cursor.at() }))
