@@ -25,7 +25,7 @@ with_three name first second third = name ++ (codes " " ++ (decimal first ++ (co
 
 -- a bool as a digit
 abbrev pub bool_digit : Bool → ℕ
-bool_digit funds = if funds then 1 else 0
+bool_digit flag = if flag then 1 else 0
 
 -- a fault of signatures. Want of memory is none.
 unfoldable pub signature_fault_text : SigFault → List ℕ

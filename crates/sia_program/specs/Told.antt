@@ -3,8 +3,6 @@
 use Rattle.std.specs.Prelude.{ℕ, Option, Some, None, Result, Ok, Err}
 use Rattle.sia_encoding.specs.declared.fault.DecodeFault.{DecodeFault}
 use Rattle.sia_encoding.specs.declared.fault.DecodeFault.TheVariants as decode_fault
-use Rattle.sia_rules.specs.declared.fault.BlockFault.{BlockFault}
-use Rattle.sia_rules.specs.declared.fault.BlockFault.TheVariants as block_fault
 use Rattle.sia_program.specs.declared.config.ConfigFault.{ConfigFault}
 use Rattle.sia_program.specs.declared.config.ConfigFault.TheVariants as config_fault
 use Rattle.sia_program.specs.declared.stop.Refusal.{Refusal}
@@ -13,11 +11,6 @@ use Rattle.sia_program.specs.declared.stop.Fault.{Fault}
 use Rattle.sia_program.specs.declared.stop.Fault.TheVariants as fault
 use Rattle.sia_program.specs.declared.stop.Stop.{Stop}
 use Rattle.sia_program.specs.declared.stop.Stop.TheVariants as stop
-
--- the rule of blocks that a fault tells
-abbrev pub rule_told : BlockFault → Option BlockFault
-rule_told block_fault.Memory = None
-rule_told rule = Some rule
 
 -- the refusal that a configuration's fault tells
 abbrev pub config_told : ConfigFault → Option ConfigFault

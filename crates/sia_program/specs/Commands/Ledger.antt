@@ -64,7 +64,7 @@ done_at verdict s chain = do
   Ok (next, first.1)
 
 -- What a feed makes of a chain from a spot on: each record is read and then done, and the first that can't be read or is refused
--- decides. There are at most so many records less one.
+-- decides. There are at most so many records less one; the first case is never reached.
 unfoldable pub run_at : Verdict → ℕ → Spot → Chain → Result Chain Refusal
 run_at verdict zero s chain = Err (refusal.Feed s.at)
 run_at verdict (suc most) s chain =
