@@ -2,8 +2,10 @@
 use Rattle.std.proofs.Common.{◌≡◌, ℕ, ◌+◌, ◌-◌, ◌^◌, ◌<◌, ◌≤◌, Bool, false, List, [], ◌∷◌, ◌++◌, length, take, refl, ap, sym, ◌∙◌, subst, arith, length-append, add-zero}
 use Rattle.std.proofs.Math.Seq.{take-append_seam}
 use Rattle.std.proofs.lemmas.Bool.{eqb-false}
-use Rattle.std.specs.Prelude.{◌==◌, ◌≢◌, fold, Option, Some, None}
+use Rattle.std.specs.Prelude.{◌==◌, ◌≢◌, fold, Option, Some, None, Ok}
+use Rattle.sia_encoding.specs.Answer.{unless}
 use Rattle.sia_encoding.specs.Firsts.{broken}
+use Rattle.sia_encoding.proofs.Answering.{unless_ok}
 use Rattle.sia_types.specs.declared.block.Block.{Block}
 use Rattle.sia_types.specs.declared.funds.FundOutput.{FundOutput}
 use Rattle.sia_ids.specs.Identifiers.{block_id}
@@ -13,7 +15,7 @@ use Rattle.sia_ledger.specs.declared.fact.Fact.{Fact}
 use Rattle.sia_ledger.specs.Chain.{Chain, height, extended}
 use Rattle.sia_ledger.specs.State.{State, next}
 use Rattle.sia_ledger.specs.Blocks.{after_block, done_by, genesis_state, state_of}
-use Rattle.sia_ledger.specs.Refusal.{bad_parent, too_large, height_end, verdict}
+use Rattle.sia_ledger.specs.Refusal.{bad_parent, too_large, height_end, refusal, verdict}
 use Rattle.sia_ledger.specs.Kept.{AllAccepted, IsSound, IsKept, marks_of}
 use Rattle.sia_ledger.proofs.Always.{block_adds}
 use Rattle.sia_ledger.proofs.Conserved.{block_stands, genesis_next, next-more}
@@ -159,3 +161,11 @@ kept_dropped maturity funds blocks left block ids facts after marks rest was are
     let mark = length (fold (after_block maturity) first left).facts in
     let split : marks ≡ earlier ++ mark ∷ [] = longer.marks_are ∙ marks_more maturity left block first in
     rw (facts_are earlier mark split, rest_are earlier mark split) (kept_less chain block ids facts earlier mark (subst (λ (all : List ℕ). IsKept (extended chain block) ids facts all) split longer))
+
+-- one block more, where the answer says that it breaks no rule
+pub kept_applied : (accepts : List ℕ → List ℕ → List ℕ → Bool) (chain : Chain) (ids : List (List ℕ)) (facts : List Fact) (marks : List ℕ) (block : Block) (made : List Fact) → IsKept chain ids facts marks → unless (refusal accepts chain block) ≡ Ok tt → (state_of chain).facts ++ made ≡ (done_by chain.maturity block (state_of chain)).facts
+    → IsKept (extended chain block) (ids ++ block_id block ∷ []) (facts ++ made) (marks ++ length facts ∷ [])
+kept_applied accepts chain ids facts marks block made was ok is =
+    kept_more accepts chain ids facts marks block made was
+        (ap (λ (s : State). verdict accepts chain.maturity s block) (sym was.state) ∙ unless_ok (refusal accepts chain block) ok)
+        (ap (λ (s : State). s.facts ++ made) (sym was.state) ∙ is ∙ ap (λ (s : State). (done_by chain.maturity block s).facts) was.state)

@@ -1,9 +1,11 @@
 -- The rules of a transaction in two parts.
-use Rattle.std.proofs.Common.{◌≡◌, ℕ, Bool, List, Option, None, Some, refl}
+use Rattle.std.proofs.Common.{◌≡◌, ℕ, Bool, List, [], ◌∷◌, ◌++◌, Option, None, Some, refl, ap}
 use Rattle.sia_encoding.specs.Firsts.{◌or_else◌}
 use Rattle.sia_types.specs.declared.transaction.Transaction.{Transaction}
 use Rattle.sia_rules.specs.Shape.{proof_mix, repeated, shape_fault}
+use Rattle.sia_ledger.specs.declared.fact.Fact.{Fact}
 use Rattle.sia_ledger.specs.Judging.{state_refusal}
+use Rattle.sia_ledger.specs.Known.{state_in}
 use Rattle.sia_ledger.specs.Refusal.{transaction_refusal}
 use Rattle.sia_ledger.specs.State.{State}
 
@@ -24,3 +26,11 @@ shape_none t tx is = by (proof_mix t tx) is
     by : (mix : Option _) → (mix or_else repeated t tx) ≡ None → repeated t tx ≡ None
     by None is = is
     by (Some fault) is = cc
+
+none_behind : (facts : List Fact) → facts ++ [] ≡ facts
+none_behind [] = refl
+none_behind (x ∷ facts) = ap (λ (rest : List Fact). x ∷ rest) (none_behind facts)
+
+-- before anything new, what is known is what is kept
+pub begun_same : (s : State) → s.twice ≡ None → state_in (record { ids = s.ids; kept = s.facts; fresh = []; twice = None }) ≡ s
+begun_same s new = rw (none_behind s.facts, ← new) refl

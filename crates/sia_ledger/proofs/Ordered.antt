@@ -1,8 +1,9 @@
 -- What one fact more in front does to the contracts that end at a height, and to the live outputs at an address.
-use Rattle.std.proofs.Common.{◌≡◌, ℕ, suc, ◌+◌, ◌<◌, Bool, true, false, List, [], ◌∷◌, ◌++◌, length, map, drop, get_or, Option, Some, None, refl, ap, sym, ◌∙◌, add-one}
+use Rattle.std.proofs.Common.{◌≡◌, ℕ, suc, ◌+◌, ◌<◌, ◌≤◌, Bool, true, false, List, [], ◌∷◌, ◌++◌, length, map, drop, get_or, Option, Some, None, refl, ap, sym, ◌∙◌, add-one, arith}
 use Rattle.std.specs.Prelude.{if◌then◌else◌}
-use Rattle.std.specs.List.{filter, filter_map}
+use Rattle.std.specs.List.{cons_option, filter, filter_map}
 use Rattle.std.proofs.Math.Seq.{drop-cons}
+use Rattle.std.proofs.lemmas.List.{drop_all}
 use Rattle.sia_types.specs.declared.coin.Coin.{Coin}
 use Rattle.sia_ledger.specs.declared.fact.Fact.{Fact}
 use Rattle.sia_ledger.specs.Blocks.{ending, ends_at}
@@ -60,22 +61,14 @@ pub owned_other : (address : List ℕ) (x : Fact) (rest : List Fact) → is_know
 unfolding live_coins_at
 owned_other address x rest e none =
     ap (λ k. owned_among address (if k then standing rest else x ∷ standing rest)) e
-    ∙ ap (λ found. ascending_by (λ (coin : Coin). coin.id) (joined found)) none
-  where
-    joined : Option Coin → List Coin
-    joined None = filter_map (owned address) (standing rest)
-    joined (Some coin) = coin ∷ filter_map (owned address) (standing rest)
+    ∙ ap (λ found. ascending_by (λ (coin : Coin). coin.id) (cons_option found (filter_map (owned address) (standing rest)))) none
 
 -- any other one adds its output
 pub owned_here : (address : List ℕ) (x : Fact) (rest : List Fact) (coin : Coin) → is_known rest x.id ≡ false → owned address x ≡ Some coin → live_coins_at (x ∷ rest) address ≡ put_by (λ (c : Coin). c.id) coin (live_coins_at rest address)
 unfolding live_coins_at ascending_by
 owned_here address x rest coin e some =
     ap (λ k. owned_among address (if k then standing rest else x ∷ standing rest)) e
-    ∙ ap (λ found. ascending_by (λ (coin : Coin). coin.id) (joined found)) some
-  where
-    joined : Option Coin → List Coin
-    joined None = filter_map (owned address) (standing rest)
-    joined (Some coin) = coin ∷ filter_map (owned address) (standing rest)
+    ∙ ap (λ found. ascending_by (λ (coin : Coin). coin.id) (cons_option found (filter_map (owned address) (standing rest)))) some
 
 -- the facts from an index on
 pub owned_from : (address : List ℕ) (facts : List Fact) (i : ℕ) (x : Fact) → i < length facts → x ≡ get_or facts i x → live_coins_at (x ∷ drop (i + 1) facts) address ≡ live_coins_at (drop i facts) address
@@ -83,3 +76,19 @@ owned_from address facts i x within is =
     ap (λ n. live_coins_at (x ∷ drop n facts) address) (add-one i)
     ∙ ap (λ y. live_coins_at (y ∷ drop (suc i) facts) address) is
     ∙ ap (λ front. live_coins_at front address) (sym (drop-cons facts i x within))
+
+-- among no facts none ends
+pub ending_nothing : (height : ℕ) → [] ≡ ending height []
+unfolding ending ascending_by
+ending_nothing height = refl
+
+-- among no facts none is at an address
+pub owned_nothing : (address : List ℕ) → [] ≡ live_coins_at [] address
+unfolding live_coins_at ascending_by
+owned_nothing address = refl
+
+-- nor among those behind the last
+pub owned_end : (address : List ℕ) (facts : List Fact) → [] ≡ live_coins_at (drop (length facts) facts) address
+owned_end address facts =
+    let all : length facts ≤ length facts = omega arith in
+    owned_nothing address ∙ ap (λ left. live_coins_at left address) (sym (drop_all (length facts) facts all))

@@ -1,5 +1,5 @@
 //! What is kept of a chain while a block is judged.
-ghost use Rattle.std.specs.Prelude.{◌≡◌, ◌<◌, length};
+ghost use Rattle.std.specs.Prelude.{◌≡◌, ◌<◌, length, None};
 ghost use Rattle.sia_ledger.specs.Holdings.{last_id};
 ghost use Rattle.sia_ledger.specs.Judging.{state_kept};
 ghost use Rattle.sia_ledger.specs.State.{next};
@@ -41,7 +41,8 @@ impl<'a> Base<'a> {
 
     /// What the genesis and the blocks made and did.
     pub(crate) fn facts(&self) -> &'a [Fact]
-        ensures { result.now ≡ self.now.facts }
+        ensures facts { result.now ≡ self.now.facts }
+        ensures new { self.now.twice ≡ None }
     {
         self.facts
     }

@@ -36,7 +36,8 @@ impl<'a> Model for Draft<'a> {
 impl<'a> Draft<'a> {
     /// What is known behind what is kept, before anything new.
     pub(crate) fn begin(alloc: Global, base: &Base<'a>) -> Draft<'a>
-        ensures { result ≡ record { ids = base.now.ids; kept = base.now.facts; fresh = []; twice = None } }
+        ensures is { result ≡ record { ids = base.now.ids; kept = base.now.facts; fresh = []; twice = None } }
+        ensures same { state_in result ≡ base.now }
     {
         Draft {
             ids: base.ids(),

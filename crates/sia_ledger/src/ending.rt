@@ -11,6 +11,7 @@ use sia_encoding::List;
 use std::alloc::{AllocError, Global};
 
 /// The running contracts that end at a height, where some facts stand behind others.
+#[tactic(auto, using(crate::proofs::Ordered::ending_nothing))]
 pub(crate) fn ending_of(
     alloc: Global,
     height: u64,

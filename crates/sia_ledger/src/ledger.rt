@@ -206,6 +206,7 @@ impl Ledger {
     }
 
     /// The identifier of the last block, or of the genesis where there is none.
+    #[tactic(auto, unfolding(crate::specs::Holdings::tip))]
     pub fn tip(&self) -> Hash
         ensures { result ≡ tip self.now }
     {

@@ -12,6 +12,7 @@ use sia_types::Coin;
 use std::alloc::{AllocError, Global};
 
 /// The live siacoin outputs at an address.
+#[tactic(auto, using(crate::proofs::Ordered::owned_from, crate::proofs::Ordered::owned_nothing))]
 pub(crate) fn owned_by(
     alloc: Global,
     address: &Hash,

@@ -1,5 +1,5 @@
 //! Settling contracts: with a storage proof, or at the end of their window without one.
-ghost use Rattle.std.specs.Prelude.{◌≡◌, ◌+◌, ◌<◌, ◌^◌, if◌then◌else◌, IfOk, OnOk};
+ghost use Rattle.std.specs.Prelude.{◌≡◌, ◌+◌, ◌<◌, ◌^◌, if◌then◌else◌, false, fold, IfOk, OnOk};
 ghost use Rattle.sia_ledger.specs.Blocks.{with_missed};
 ghost use Rattle.sia_ledger.specs.Effects.{settled, settlement_facts, with_proofs};
 ghost use Rattle.sia_ledger.specs.Known.{state_in};
@@ -46,8 +46,22 @@ pub(crate) fn settle_missed(
     ensures ids { draft.new.ids ≡ draft.old.ids }
 {
     let from = draft.next() + maturity;
-    let ending = draft.ending(alloc, draft.next())?;
-    for contract in ending.as_slice() {
+    let ended = draft.ending(alloc, draft.next())?;
+    settle_each(alloc, draft, from, &ended)
+}
+
+// Settles running contracts as missed, one after another.
+fn settle_each(
+    alloc: Global,
+    draft: &mut Draft<'_>,
+    from: u64,
+    contracts: &List<Hash>,
+) -> Result<(), AllocError>
+    ensures done { OnOk result (state_in draft.new ≡ fold (settled from false) (state_in draft.old) contracts.now) }
+    ensures kept { draft.new.kept ≡ draft.old.kept }
+    ensures ids { draft.new.ids ≡ draft.old.ids }
+{
+    for contract in contracts.as_slice() {
         settle(alloc, draft, from, false, contract)?;
     }
     Ok(())
