@@ -125,6 +125,7 @@ fn do_record<C: SigCheck, L: StepBook>(
 }
 
 /// Reads and does the records of a feed in turn, up to the first that can't be read or is refused.
+#[tactic(auto, unfolding(crate::specs::Commands::Ledger::run))]
 fn run_counted<C: SigCheck, L: StepBook>(
     alloc: Global,
     ledger: &mut Ledger,

@@ -19,4 +19,4 @@ loop-i-preserved g c =
 pub returns : goal.returns
 returns g c =
     let all : length c.args.feed.now + 1 ≡ c.loop-i.i = omega arith in
-    sym c.loop-i.invariant ∙ run_over g.C.SigCheck.verdict (length c.args.feed.now + 1) c.loop-i.i c.loop-i.cursor c.loop-i.ledger all
+    rw c.at.ensures (sym c.loop-i.invariant ∙ run_over g.C.SigCheck.verdict (length c.args.feed.now + 1) c.loop-i.i c.loop-i.cursor c.loop-i.ledger all)
