@@ -122,7 +122,7 @@ covered_block accepts maturity s block sum Text tip most whole stands own was =
     let told2 : IsCovered Text (IsTold id s2.facts Side) s2 = covered_transactions accepts maturity 0 block.transactions s1 0 sum Text Side id (own_most s block sum most whole) stands.each stands.values stands.fits.1.1.1.1.1 (in_block Text block) (λ text kind. own text (inr (inl kind))) told1 in
     let told3 : IsCovered Text (IsTold id s3.facts Side) s3 = covered_missed Text Side id (next s2 + maturity) (ending (next s2) s2.facts) s2 (beside_block Text block) (λ text kind. own text (inr (inr (inl kind)))) told2 in
     let told4 = covered_numbered Text (IsTold id s3.facts Side) (payout_text id) payout_fact Anything (length block.payouts) (λ i y. refl) (λ i y u. tt) (λ i y. refl) 0 block.payouts s3 (λ k d low. tt) (omega arith) (λ none. new s3.facts)
-        (covered_as Text (IsTold id s3.facts Side) (λ text. IsTold id s3.facts Side text ⊎ IsNumbered (payout_text id) 0 text) s3 (λ none text kind. inl kind) told3) in
+    (covered_as Text (IsTold id s3.facts Side) (λ text. IsTold id s3.facts Side text ⊎ IsNumbered (payout_text id) 0 text) s3 (λ none text kind. inl kind) told3) in
     let l2 : Later s1.facts s2.facts = each (Later s1.facts) (after_transaction maturity) (after_transaction-keeps (Later s1.facts) (later_stays s1.facts) maturity) block.transactions s1 (later_same s1.facts) in
     let l3 : Later s1.facts s3.facts = each (Later s1.facts) (settled (next s2 + maturity) false) (settle_one (Later s1.facts) (later_stays s1.facts) (next s2 + maturity) false) (ending (next s2) s2.facts) s2 l2 in
     let l4 : Later s1.facts s4.facts = make_each (Later s1.facts) (later_stays s1.facts) payout_fact (λ i payout. refl) 0 block.payouts s3 l3 in
@@ -149,9 +149,10 @@ covered_block accepts maturity s block sum Text tip most whole stands own was =
     tell : (facts : List Fact) → Later s.facts facts → IsAdded (record s { twice = None }) (fact (block_id block) deed.Block) → (text : List ℕ) → IsTold tip s.facts Text text ⊎ (text ≡ block_text block) → IsTold (block_id block) facts (InBlock Text block) text
     tell facts later is text (inl kind) = (new_tip tip (block_id block) s.facts facts text is.new later kind.0, (kind.1, λ i. not_payout tip s.facts text (block_id block) i kind.0 (length-block_id block) is.new))
     tell facts later is text (inr same) =
-        let before : is_known s.facts block.parent ≡ true = ap (is_known s.facts) stands.on ∙ stands.tip_known in
-        ( OfBlock block parent nonce same (later.known block.parent before) (λ e. true_false (sym before ∙ ap (is_known s.facts) e ∙ is.new))
-        , (subst Text (sym same) (own (block_text block) (inl refl)), λ i e. not_both (length text) (block_long text block parent nonce same) (payout_long text (block_id block) i (length-block_id block) e)))
+        let before : is_known s.facts block.parent ≡ true = ap (is_known s.facts) stands.on ∙ stands.tip_known in (
+          OfBlock block parent nonce same (later.known block.parent before) (λ e. true_false (sym before ∙ ap (is_known s.facts) e ∙ is.new)),
+          (subst Text (sym same) (own (block_text block) (inl refl)), λ i e. not_both (length text) (block_long text block parent nonce same) (payout_long text (block_id block) i (length-block_id block) e)),
+        )
 
     new : (facts : List Fact) → IsNew Text (IsTold (block_id block) facts (InBlock Text block)) (payout_text (block_id block)) (length block.payouts)
     new facts = record {

@@ -138,18 +138,18 @@ transaction_most accepts maturity s t tx fees sum was accepted = of_fields (tran
           funds = omega (arith, was.funds, funds_balanced, m1.funds, m2.funds, m3.funds, m4.funds, m5.funds, m6.funds, m7.funds);
           pays = all.fund_outputs.pays;
           whole = λ none.
-            let e7 = all.fund_outputs.does.exact none in
-            let e6 = all.fund_inputs.does.exact e7.before in
-            let e5 = all.proofs.does.exact e6.before in
-            let e4 = all.revisions.does.exact e5.before in
-            let e3 = all.contracts.does.exact e4.before in
-            let e2 = all.coin_outputs.does.exact e3.before in
-            let e1 = all.coin_inputs.does.exact e2.before in
-            let before = was.whole e1.before in
-            record {
-              holds = omega (arith, before.holds, balanced, e1.moves.holds, e2.moves.holds, e3.moves.holds, e4.moves.holds, e5.moves.holds, e6.moves.holds, e7.moves.holds);
-              funds = omega (arith, before.funds, funds_balanced, e1.moves.funds, e2.moves.funds, e3.moves.funds, e4.moves.funds, e5.moves.funds, e6.moves.funds, e7.moves.funds);
-            };
+              let e7 = all.fund_outputs.does.exact none in
+              let e6 = all.fund_inputs.does.exact e7.before in
+              let e5 = all.proofs.does.exact e6.before in
+              let e4 = all.revisions.does.exact e5.before in
+              let e3 = all.contracts.does.exact e4.before in
+              let e2 = all.coin_outputs.does.exact e3.before in
+              let e1 = all.coin_inputs.does.exact e2.before in
+              let before = was.whole e1.before in
+              record {
+                holds = omega (arith, before.holds, balanced, e1.moves.holds, e2.moves.holds, e3.moves.holds, e4.moves.holds, e5.moves.holds, e6.moves.holds, e7.moves.holds);
+                funds = omega (arith, before.funds, funds_balanced, e1.moves.funds, e2.moves.funds, e3.moves.funds, e4.moves.funds, e5.moves.funds, e6.moves.funds, e7.moves.funds);
+              };
         }
 
 most_as : (s : State) (fees other sum : ℕ) → IsMost s fees sum → fees ≡ other → IsMost s other sum
@@ -204,8 +204,8 @@ own_most s block sum was whole =
       funds = omega (arith, was.funds, own.does.most.funds);
       pays = own.pays;
       whole = λ none.
-        let exact = own.does.exact none in
-        record { holds = omega (arith, whole.holds, exact.moves.holds); funds = omega (arith, whole.funds, exact.moves.funds) };
+          let exact = own.does.exact none in
+          record { holds = omega (arith, whole.holds, exact.moves.holds); funds = omega (arith, whole.funds, exact.moves.funds) };
     }
 
 -- a chain that holds exactly so much

@@ -17,6 +17,9 @@ use Rattle.sia_ledger.specs.State.{State, next}
 use Rattle.sia_ledger.specs.Blocks.{after_block, done_by, genesis_state, state_of}
 use Rattle.sia_ledger.specs.Refusal.{bad_parent, too_large, height_end, refusal, verdict}
 use Rattle.sia_ledger.specs.Kept.{AllAccepted, IsSound, IsKept, marks_of}
+use Rattle.sia_encoding.specs.Items.{list_of}
+use Rattle.sia_types.specs.Funds.{fund_output}
+use Rattle.sia_ledger.specs.Texts.{IsOfType, AllOfType}
 use Rattle.sia_ledger.proofs.Always.{block_adds}
 use Rattle.sia_ledger.proofs.Conserved.{block_stands, genesis_next, next-more}
 use Rattle.sia_ledger.proofs.Standing.{or_none, unbroken}
@@ -50,7 +53,7 @@ pub after_is : (maturity : ℕ) (s : State) (block : Block) → after_block matu
 unfolding after_block
 after_is maturity s block = refl
 
-all_new : (maturity : ℕ) (blocks : List Block) (s : State) → s.twice ≡ None → AllAccepted maturity s blocks → (fold (after_block maturity) s blocks).twice ≡ None
+pub all_new : (maturity : ℕ) (blocks : List Block) (s : State) → s.twice ≡ None → AllAccepted maturity s blocks → (fold (after_block maturity) s blocks).twice ≡ None
 all_new maturity [] s new all = new
 all_new maturity (block ∷ blocks) s new ((accepts, none), all) = all_new maturity blocks (after_block maturity s block) (ap (λ (t : State). t.twice) (after_is maturity s block) ∙ done_new accepts maturity s block none) all
 
@@ -76,11 +79,19 @@ below_end accepts maturity s block none =
     let b3 = or_none (broken (next s == 2 ^ 32) block_fault.HeightEnd) _ b2.1 in
     unbroken _ _ b3.0
 
+pub types_front : (blocks : List Block) (block : Block) → AllOfType (blocks ++ block ∷ []) → AllOfType blocks × IsOfType block
+types_front [] block all = (tt, all.0)
+types_front (first ∷ blocks) block all = let rest = types_front blocks block all.1 in ((all.0, rest.0), rest.1)
+
+types_more : (blocks : List Block) (block : Block) → AllOfType blocks → IsOfType block → AllOfType (blocks ++ block ∷ [])
+types_more [] block all typed = (typed, tt)
+types_more (first ∷ blocks) block all typed = (all.0, types_more blocks block all.1 typed)
+
 -- one block more
-pub kept_more : (accepts : List ℕ → List ℕ → List ℕ → Bool) (chain : Chain) (ids : List (List ℕ)) (facts : List Fact) (marks : List ℕ) (block : Block) (made : List Fact) → IsKept chain ids facts marks → verdict accepts chain.maturity (known ids facts None) block ≡ None → facts ++ made ≡ (done_by chain.maturity block (known ids facts None)).facts
+pub kept_more : (accepts : List ℕ → List ℕ → List ℕ → Bool) (chain : Chain) (ids : List (List ℕ)) (facts : List Fact) (marks : List ℕ) (block : Block) (made : List Fact) → IsKept chain ids facts marks → IsOfType block → verdict accepts chain.maturity (known ids facts None) block ≡ None → facts ++ made ≡ (done_by chain.maturity block (known ids facts None)).facts
     → IsKept (extended chain block) (ids ++ block_id block ∷ []) (facts ++ made) (marks ++ length facts ∷ [])
 unfolding state_of
-kept_more accepts chain ids facts marks block made was none is =
+kept_more accepts chain ids facts marks block made was typed none is =
     let first = genesis_state chain.funds in
     let s = fold (after_block chain.maturity) first chain.blocks in
     let accepted : verdict accepts chain.maturity s block ≡ None = ap (λ (t : State). verdict accepts chain.maturity t block) was.state ∙ none in
@@ -95,6 +106,7 @@ kept_more accepts chain ids facts marks block made was none is =
       sound = record { funds = was.sound.funds; new = was.sound.new; accepted = accepted_more chain.maturity chain.blocks block first was.sound.accepted accepts accepted };
       low = omega (arith, was.low, count, more, below);
       rested = was.rested;
+      types = record { funds = was.types.funds; blocks = types_more chain.blocks block was.types.blocks typed };
     }
 
 none_longer : {X : Type 0} (xs : List X) (x : X) → [] ≡ xs ++ x ∷ [] → ⊥
@@ -137,17 +149,19 @@ kept_less chain block ids facts marks mark was =
       sound = record { funds = was.sound.funds; new = was.sound.new; accepted = accepted };
       low = omega (arith, was.low, more);
       rested = was.rested;
+      types = record { funds = was.types.funds; blocks = (types_front chain.blocks block was.types.blocks).0 };
     }
 
 -- the genesis alone
-pub kept_none : (maturity : ℕ) (funds : List FundOutput) (ids : List (List ℕ)) (facts : List Fact) → genesis_state funds ≡ known ids facts None → fund_sum funds ≡ 10000 → maturity ≤ 10000 → IsKept (record { maturity = maturity; funds = funds; blocks = [] }) ids facts []
+pub kept_none : (maturity : ℕ) (funds : List FundOutput) (ids : List (List ℕ)) (facts : List Fact) → genesis_state funds ≡ known ids facts None → fund_sum funds ≡ 10000 → maturity ≤ 10000 → (list_of fund_output).fits (2 ^ 64 - 1) funds → IsKept (record { maturity = maturity; funds = funds; blocks = [] }) ids facts []
 unfolding state_of
-kept_none maturity funds ids facts is sums rested = record {
+kept_none maturity funds ids facts is sums rested typed = record {
   state = is;
   marks_are = refl;
   sound = record { funds = sums; new = ap (λ (t : State). t.twice) is; accepted = tt };
   low = omega arith;
   rested = rested;
+  types = record { funds = typed; blocks = tt };
 }
 
 -- the same, where the last block and the last mark were taken off
@@ -163,9 +177,9 @@ kept_dropped maturity funds blocks left block ids facts after marks rest was are
     rw (facts_are earlier mark split, rest_are earlier mark split) (kept_less chain block ids facts earlier mark (subst (λ (all : List ℕ). IsKept (extended chain block) ids facts all) split longer))
 
 -- one block more, where the answer says that it breaks no rule
-pub kept_applied : (accepts : List ℕ → List ℕ → List ℕ → Bool) (chain : Chain) (ids : List (List ℕ)) (facts : List Fact) (marks : List ℕ) (block : Block) (made : List Fact) → IsKept chain ids facts marks → unless (refusal accepts chain block) ≡ Ok tt → (state_of chain).facts ++ made ≡ (done_by chain.maturity block (state_of chain)).facts
+pub kept_applied : (accepts : List ℕ → List ℕ → List ℕ → Bool) (chain : Chain) (ids : List (List ℕ)) (facts : List Fact) (marks : List ℕ) (block : Block) (made : List Fact) → IsKept chain ids facts marks → IsOfType block → unless (refusal accepts chain block) ≡ Ok tt → (state_of chain).facts ++ made ≡ (done_by chain.maturity block (state_of chain)).facts
     → IsKept (extended chain block) (ids ++ block_id block ∷ []) (facts ++ made) (marks ++ length facts ∷ [])
-kept_applied accepts chain ids facts marks block made was ok is =
-    kept_more accepts chain ids facts marks block made was
-        (ap (λ (s : State). verdict accepts chain.maturity s block) (sym was.state) ∙ unless_ok (refusal accepts chain block) ok)
-        (ap (λ (s : State). s.facts ++ made) (sym was.state) ∙ is ∙ ap (λ (s : State). (done_by chain.maturity block s).facts) was.state)
+kept_applied accepts chain ids facts marks block made was typed ok is =
+    kept_more accepts chain ids facts marks block made was typed
+    (ap (λ (s : State). verdict accepts chain.maturity s block) (sym was.state) ∙ unless_ok (refusal accepts chain block) ok)
+    (ap (λ (s : State). s.facts ++ made) (sym was.state) ∙ is ∙ ap (λ (s : State). (done_by chain.maturity block s).facts) was.state)

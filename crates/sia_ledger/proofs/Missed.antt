@@ -229,4 +229,3 @@ miss_all low done proved id from (contract ∷ contracts) s ends was =
     by : (b : Bool) → bytes_eq contract id ≡ b → (b || list_any (λ c. bytes_eq c id) contracts) ≡ true → (bytes_eq contract id ≡ true → Gone (settled from false s contract).facts id) → (list_any (λ c. bytes_eq c id) contracts ≡ true → Gone (fold (settled from false) (settled from false s contract) contracts).facts id) → (terms : Terms) → terms_at (fold (settled from false) (settled from false s contract) contracts).facts id ≡ Some terms → terms_at (settled from false s contract).facts id ≡ Some terms → ⊥
     by true same e here later terms now before = here same terms before
     by false other e here later terms now before = later e terms now
-

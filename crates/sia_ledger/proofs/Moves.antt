@@ -19,9 +19,6 @@ use Rattle.std.specs.Str.{bytes_eq}
 use Rattle.sia_ledger.proofs.Held.{worth, held-push, known-some, unknown, last-push, same-sym, same-self}
 use Rattle.sia_ledger.proofs.Claims.{unclaimed-push, unclaimed-more}
 
-
-
-
 -- what is held changes by a gain and a loss, and the live siafunds by what is brought and taken
 pub record Moves (before after : List Fact) (gain loss brought taken : ℕ) : Type 0 where
   pub holds : total after + loss ≡ total before + gain

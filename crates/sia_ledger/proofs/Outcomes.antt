@@ -305,4 +305,3 @@ missed_from done proved final (Some (deed.Settled valid)) c = by valid c.0 c.1.2
 
 pub settled_missed : (chain : Chain) → IsSound chain → (id : List ℕ) → (status_of chain id ≡ status.Missed) ↔ EndedUnproved chain id
 settled_missed chain sound id = missed_from (height chain) (is_proved id chain.blocks) (final_in (facts chain) id) (last_deed (facts chain) id) (course_of chain sound id)
-

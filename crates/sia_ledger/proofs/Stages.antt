@@ -59,9 +59,9 @@ does_both : (a b c : State) (g l f k g' l' f' k' : ℕ) → Does a b g l f k →
 does_both a b c g l f k g' l' f' k' one two = record {
   most = and_most a.facts b.facts c.facts g l f k g' l' f' k' one.most two.most;
   exact = λ none.
-    let second = two.exact none in
-    let first = one.exact second.before in
-    record { before = first.before; moves = and_then a.facts b.facts c.facts g l f k g' l' f' k' first.moves second.moves };
+      let second = two.exact none in
+      let first = one.exact second.before in
+      record { before = first.before; moves = and_then a.facts b.facts c.facts g l f k g' l' f' k' first.moves second.moves };
 }
 
 -- the same in other numbers
@@ -69,8 +69,8 @@ does_as : (s t : State) (g l f k g' l' f' k' : ℕ) → Does s t g l f k → g +
 does_as s t g l f k g' l' f' k' does coins funds = record {
   most = record { holds = omega (arith, does.most.holds, coins); funds = omega (arith, does.most.funds, funds) };
   exact = λ none.
-    let was = does.exact none in
-    record { before = was.before; moves = record { holds = omega (arith, was.moves.holds, coins); funds = omega (arith, was.moves.funds, funds) } };
+      let was = does.exact none in
+      record { before = was.before; moves = record { holds = omega (arith, was.moves.holds, coins); funds = omega (arith, was.moves.funds, funds) } };
 }
 
 -- what a field gives

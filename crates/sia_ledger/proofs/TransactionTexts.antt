@@ -245,21 +245,21 @@ covered_transaction accepts maturity s t tx fees sum Text Side tip most accepted
         let funds_balanced : funds_in s.facts tx ≡ fund_sum tx.fund_outputs = all.stands.funds_balanced in
         let c1 : IsCovered Text T0 s1 = covered_inputs Text T0 tx.coin_inputs s (coins_in s.facts tx) all.stands.coins all.stands.coins_once was in
         let c2 : IsCovered Text T1 s2 = covered_numbered Text T0 (made_text (codes "siacoin output") tx) coin_fact Anything (length tx.coin_outputs) (λ i x. refl) (λ i x u. tt) (λ i x. refl) 0 tx.coin_outputs s1 (λ k d low. tt) (omega arith) (λ none. new_coins fresh)
-            (covered_as Text T0 (λ text. T0 text ⊎ IsNumbered (made_text (codes "siacoin output") tx) 0 text) s1 (λ none text kind. inl kind) c1) in
+        (covered_as Text T0 (λ text. T0 text ⊎ IsNumbered (made_text (codes "siacoin output") tx) 0 text) s1 (λ none text kind. inl kind) c1) in
         let c3 : IsCovered Text T2 s3 = covered_numbered Text T1 (made_text (codes "file contract") tx) contract_fact ContractFits (length tx.contracts) (λ i x. refl) (λ i x sized. contract_short x sized) (λ i x. refl) 0 tx.contracts s2 fits.1.1.0.1 (omega arith) (λ none. new_contracts fresh)
-            (covered_as Text T1 (λ text. T1 text ⊎ IsNumbered (made_text (codes "file contract") tx) 0 text) s2 (λ none text kind. inl kind) c2) in
+        (covered_as Text T1 (λ text. T1 text ⊎ IsNumbered (made_text (codes "file contract") tx) 0 text) s2 (λ none text kind. inl kind) c2) in
         let l1 : Later s.facts s1.facts = spend_all (Later s.facts) (later_stays s.facts) tx.coin_inputs s (later_same s.facts) in
         let l12 : Later s1.facts s2.facts = make_each (Later s1.facts) (later_stays s1.facts) coin_fact (λ i output. refl) 0 tx.coin_outputs s1 (later_same s1.facts) in
         let l13 : Later s1.facts s3.facts = make_each (Later s1.facts) (later_stays s1.facts) contract_fact (λ i contract. refl) 0 tx.contracts s2 l12 in
         let l3 : Later s.facts s3.facts = later_then s.facts s1.facts s3.facts l1 l13 in
         let coins : (i : ℕ) → i < length tx.coin_outputs → some_over s3.facts (inputs_of tx) ≡ true = λ i low.
-            let paid = outputs_pay tx.coin_outputs i low value.coins in
-            let some : 0 < coins_in s.facts tx = omega (arith, balanced, paid) in
-            some_over-later s1.facts s3.facts l13 (inputs_of tx) (coins_over tx s (coins_in s.facts tx) all.stands.coins some) in
+        let paid = outputs_pay tx.coin_outputs i low value.coins in
+        let some : 0 < coins_in s.facts tx = omega (arith, balanced, paid) in
+        some_over-later s1.facts s3.facts l13 (inputs_of tx) (coins_over tx s (coins_in s.facts tx) all.stands.coins some) in
         let contracts : (i : ℕ) → i < length tx.contracts → some_over s3.facts (inputs_of tx) ≡ true = λ i low.
-            let paid = contracts_pay tx.contracts i low value.contracts in
-            let some : 0 < coins_in s.facts tx = omega (arith, balanced, paid) in
-            some_over-later s1.facts s3.facts l13 (inputs_of tx) (coins_over tx s (coins_in s.facts tx) all.stands.coins some) in
+        let paid = contracts_pay tx.contracts i low value.contracts in
+        let some : 0 < coins_in s.facts tx = omega (arith, balanced, paid) in
+        some_over-later s1.facts s3.facts l13 (inputs_of tx) (coins_over tx s (coins_in s.facts tx) all.stands.coins some) in
         let told3 : IsCovered Text (IsTold tip s3.facts (Later-funds tx Side)) s3 = covered_as Text T2 (IsTold tip s3.facts (Later-funds tx Side)) s3 (λ none text kind. tell_made s3.facts fresh l3 coins contracts text kind) c3 in
         let c4 : IsCovered Text (IsTold tip s3.facts (Later-funds tx Side)) s4 = covered_revisions Text (IsTold tip s3.facts (Later-funds tx Side)) tx.revisions s3 fits.1.1.1.0.1 told3 in
         let l34 : Later s3.facts s4.facts = each (Later s3.facts) with_revision (revise_one (Later s3.facts) (later_stays s3.facts)) tx.revisions s3 (later_same s3.facts) in
@@ -267,10 +267,10 @@ covered_transaction accepts maturity s t tx fees sum Text Side tip most accepted
         let c5 : IsCovered Text (IsTold tip s5.facts (Later-funds tx Side)) s5 = covered_proofs Text (Later-funds tx Side) tip maturity tx.proofs s4 beside fits.1.1.1.1.0.1 (λ text kind. own text (inr (inr (inl kind)))) told4 in
         let c6 : IsCovered Text T6 s6 = covered_fund_inputs Text (Later-funds tx Side) tip maturity tx.fund_inputs s5 (funds_in s.facts tx) beside fits.1.1.1.1.1.0.1 (λ text kind. own text (inr (inr (inr (inl kind))))) all.live all.stands.funds_once all.proofs.pays c5 in
         let c7 = covered_numbered Text T6 (made_text (codes "siafund output") tx) fund_fact Anything (length tx.fund_outputs) (λ i x. refl) (λ i x u. tt) (λ i x. refl) 0 tx.fund_outputs s6 (λ k d low. tt) (omega arith) (λ none. new_funds)
-            (covered_as Text T6 (λ text. T6 text ⊎ IsNumbered (made_text (codes "siafund output") tx) 0 text) s6 (λ none text kind. inl kind) c6) in
+        (covered_as Text T6 (λ text. T6 text ⊎ IsNumbered (made_text (codes "siafund output") tx) 0 text) s6 (λ none text kind. inl kind) c6) in
         let l67 : Later s6.facts s7.facts = make_each (Later s6.facts) (later_stays s6.facts) fund_fact (λ i output. refl) 0 tx.fund_outputs s6 (later_same s6.facts) in
         let funds : (i : ℕ) → i < length tx.fund_outputs → some_over s7.facts (inputs_of tx) ≡ true = λ i low.
-            let held = funds_hold tx.fund_outputs i low value.funds in
-            let some : 0 < funds_in s.facts tx = omega (arith, funds_balanced, held) in
-            some_over-later s6.facts s7.facts l67 (inputs_of tx) (funds_over maturity tx s5 (funds_in s.facts tx) all.live some) in
+        let held = funds_hold tx.fund_outputs i low value.funds in
+        let some : 0 < funds_in s.facts tx = omega (arith, funds_balanced, held) in
+        some_over-later s6.facts s7.facts l67 (inputs_of tx) (funds_over maturity tx s5 (funds_in s.facts tx) all.live some) in
         covered_as Text (λ text. T6 text ⊎ IsNumbered (made_text (codes "siafund output") tx) (length tx.fund_outputs) text) (IsTold tip s7.facts Side) s7 (λ none text kind. tell_funds s7.facts l67 funds text kind) c7

@@ -1,9 +1,13 @@
 -- Where a block makes an identifier a second time, two different texts of the chain have one digest.
 use Rattle.std.proofs.Common.{◌≡◌, ℕ, ◌+◌, ◌-◌, ◌^◌, ◌<◌, ◌≤◌, Bool, true, false, List, [], ◌∷◌, ◌++◌, length, map, refl, ap, sym, ◌∙◌, subst, arith, inl, inr, zero-add}
-use Rattle.std.specs.Prelude.{◌||◌, ◌==◌, ◌⊎◌, ◌≢◌, codes, fold, not, Option, Some, None}
+use Rattle.std.specs.Prelude.{◌||◌, ◌==◌, ◌⊎◌, ◌≢◌, codes, fold, not, Option, Some, None, Result, Ok, Err, IfErr, IfSome}
+use Rattle.std.specs.List.{All}
 use Rattle.std.specs.Str.{bytes_eq}
+use Rattle.std.proofs.lemmas.List.Elements.{All-head, All-tail}
 use Rattle.std.specs.Cmp.Lexicographic.{same_text}
+use Rattle.sia_encoding.specs.Answer.{Answers, unless}
 use Rattle.sia_encoding.specs.Firsts.{broken, first_at}
+use Rattle.sia_encoding.proofs.Answering.{unless_err}
 use Rattle.std.proofs.lemmas.List.{append_cancel_left}
 use Rattle.sia_encoding.specs.Spelling.{label, spelled_u64, spelled_list}
 use Rattle.sia_types.specs.declared.block.Block.{Block}
@@ -12,7 +16,9 @@ use Rattle.sia_types.specs.declared.transaction.Transaction.{Transaction}
 use Rattle.sia_types.specs.Funds.{fund_output}
 use Rattle.sia_ids.specs.Identifiers.{AreSized, new_fund, block_id, genesis_text, genesis_id, genesis_fund_text, genesis_fund_id}
 use Rattle.sia_ids.specs.Transactions.{made_text}
+use Rattle.sia_rules.specs.declared.fault.BlockFault.{BlockFault}
 use Rattle.sia_rules.specs.declared.fault.BlockFault.TheVariants as block_fault
+use Rattle.sia_rules.specs.Answers.{block_told}
 use Rattle.sia_rules.specs.Amounts.{subsidy, issued}
 use Rattle.sia_rules.specs.Sums.{fund_sum}
 use Rattle.sia_rules.specs.Values.{bad_value}
@@ -26,7 +32,7 @@ use Rattle.sia_ledger.specs.Blocks.{after_block, done_by, genesis_state, state_o
 use Rattle.sia_ledger.specs.Holdings.{last_id}
 use Rattle.sia_ledger.specs.Kept.{AllAccepted, IsKept}
 use Rattle.sia_ledger.specs.Refusal.{bad_parent, too_large, height_end, sums_too_large, bad_values, verdict, refusal}
-use Rattle.sia_ledger.specs.Texts.{IsNumbered, IsGenesisText, IsBlockText, IsTextAmong, IsText, IsTwice, IsMadeTwice, IsOfType, AllOfType, AreOfType}
+use Rattle.sia_ledger.specs.Texts.{IsNumbered, IsGenesisText, IsBlockText, IsTextAmong, IsText, IsTwice, IsMadeTwice, IsOfType, AllOfType}
 use Rattle.sia_ledger.proofs.Always.{make_each}
 use Rattle.sia_ledger.proofs.BlockTexts.{Before, After, covered_block, own_known}
 use Rattle.sia_ledger.proofs.Conserved.{IsWholly, wholly_most, block_stands, block_whole, genesis_whole, genesis_ids, genesis_next, next-more, chain_whole}
@@ -180,23 +186,33 @@ among_last : (maturity : ℕ) (blocks : List Block) (block : Block) (s : State) 
 among_last maturity [] block s text kind = inl kind
 among_last maturity (first ∷ blocks) block s text kind = inr (among_last maturity blocks block (after_block maturity s first) text kind)
 
-types_front : (blocks : List Block) (block : Block) → AllOfType (blocks ++ block ∷ []) → AllOfType blocks × IsOfType block
-types_front [] block all = (tt, all.0)
-types_front (first ∷ blocks) block all = let rest = types_front blocks block all.1 in ((all.0, rest.0), rest.1)
+-- each part of a siafund output is of its type
+abbrev FundFits : FundOutput → Type 0
+FundFits fund = fund_output.fits (2 ^ 64 - 1) fund
+
+are_sized : (funds : List FundOutput) → All FundFits funds → AreSized funds
+are_sized [] fits = tt
+are_sized (fund ∷ funds) fits = ((All-head FundFits fund funds fits).1.0.0, are_sized funds (All-tail FundFits fund funds fits))
 
 -- a block that is refused for an identifier shows two texts of it
-pub made_twice : (accepts : List ℕ → List ℕ → List ℕ → Bool) (chain : Chain) (ids : List (List ℕ)) (facts : List Fact) (marks : List ℕ) (block : Block) (id : List ℕ) → IsKept chain ids facts marks → refusal accepts chain block ≡ Some (block_fault.SameId id) → AreOfType (extended chain block) → IsMadeTwice (extended chain block) id
+pub made_twice : (accepts : List ℕ → List ℕ → List ℕ → Bool) (chain : Chain) (ids : List (List ℕ)) (facts : List Fact) (marks : List ℕ) (block : Block) (id : List ℕ) → IsKept chain ids facts marks → IsOfType block → refusal accepts chain block ≡ Some (block_fault.SameId id) → IsMadeTwice (extended chain block) id
 unfolding state_of
-made_twice accepts chain ids facts marks block id kept refused types =
+made_twice accepts chain ids facts marks block id kept typed refused =
     let first = genesis_state chain.funds in
     let s = fold (after_block chain.maturity) first chain.blocks in
     let Text : List ℕ → Type 0 = IsText (extended chain block) in
-    let blocks = types_front chain.blocks block types.blocks in
-    let start : AfterAll Text first = subst (λ (tip : List ℕ). After Text tip first) (sym (ap last_id (genesis_ids chain.funds))) (covered_genesis Text chain.funds types.few types.funds kept.sound.funds (λ text kind. inl kind)) in
+    let start : AfterAll Text first = subst (λ (tip : List ℕ). After Text tip first) (sym (ap last_id (genesis_ids chain.funds))) (covered_genesis Text chain.funds kept.types.funds.0.1 (are_sized chain.funds kept.types.funds.1) kept.sound.funds (λ text kind. inl kind)) in
     let whole : IsWholly s (issued (height chain)) = chain_whole chain kept.sound in
-    let all = covered_blocks Text chain.maturity chain.blocks first 0 (genesis_next chain.funds) (genesis_whole chain.funds kept.sound.funds kept.sound.new) kept.sound.accepted blocks.0 kept.sound.new (λ text kind. inr (among_front chain.maturity chain.blocks block first text kind)) start in
+    let all = covered_blocks Text chain.maturity chain.blocks first 0 (genesis_next chain.funds) (genesis_whole chain.funds kept.sound.funds kept.sound.new) kept.sound.accepted kept.types.blocks kept.sound.new (λ text kind. inr (among_front chain.maturity chain.blocks block first text kind)) start in
     let none : s.twice ≡ None = ap (λ (t : State). t.twice) kept.state in
     let wrong = repeats accepts chain.maturity s block id refused in
-    let before : Before accepts chain.maturity s block (last_id s.ids) = record { on = on_tip s block wrong.parent; tip_known = all.known; values = right_values block wrong.values; each = wrong.each; fits = blocks.1 } in
+    let before : Before accepts chain.maturity s block (last_id s.ids) = record { on = on_tip s block wrong.parent; tip_known = all.known; values = right_values block wrong.values; each = wrong.each; fits = typed } in
     let done = covered_block accepts chain.maturity s block (issued (height chain)) Text (last_id s.ids) (wholly_most s (issued (height chain)) whole) whole.whole before (λ text kind. inr (among_last chain.maturity chain.blocks block first text kind)) (covered_fresh Text (IsTold (last_id s.ids) s.facts Text) s none all.covered) in
     done.covered.twice id wrong.twice
+
+-- where a judgement answers that an identifier is made a second time, it is so
+pub judges_twice : {X : Type 0} (accepts : List ℕ → List ℕ → List ℕ → Bool) (result : Result X BlockFault) (chain : Chain) (ids : List (List ℕ)) (facts : List Fact) (marks : List ℕ) (block : Block) → IsKept chain ids facts marks → IsOfType block → Answers {A = Unit {0}} (λ _. tt) block_told result (unless (refusal accepts chain block)) → IfErr result (λ fault. (id : List ℕ) → fault ≡ block_fault.SameId id → IsMadeTwice (extended chain block) id)
+judges_twice accepts (Ok x) chain ids facts marks block kept typed judged = tt
+judges_twice accepts (Err fault) chain ids facts marks block kept typed judged = λ id is.
+    let P : BlockFault → Type 0 = λ f. IfSome (block_told f) (λ told. unless (refusal accepts chain block) ≡ Err told) in
+    made_twice accepts chain ids facts marks block id kept typed (unless_err (refusal accepts chain block) (block_fault.SameId id) (subst P is judged))

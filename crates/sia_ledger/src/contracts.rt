@@ -88,11 +88,7 @@ fn terms_formed(alloc: Global, contract: &FileContract) -> Result<Terms, AllocEr
 }
 
 // The terms of a contract after a revision.
-fn terms_revised(
-    alloc: Global,
-    terms: &Terms,
-    revision: &Revision,
-) -> Result<Terms, AllocError>
+fn terms_revised(alloc: Global, terms: &Terms, revision: &Revision) -> Result<Terms, AllocError>
     ensures { IfOk result (λ after. after ≡ revised terms.now revision.now) }
 {
     let (root, address) = (revision.root, revision.address);

@@ -15,11 +15,7 @@ use sia_rules::{
 use sia_types::{CoinInput, FileContract, FundInput, Revision, StorageProof};
 
 /// B9: the first siacoin input that names no live siacoin output.
-pub(crate) fn check_coins(
-    draft: &Draft<'_>,
-    t: u64,
-    inputs: &[CoinInput],
-) -> Result<(), BlockFault>
+pub(crate) fn check_coins(draft: &Draft<'_>, t: u64, inputs: &[CoinInput]) -> Result<(), BlockFault>
     ensures { Answers (λ _. tt) block_told result (unless (first_at (no_coin (state_in draft.now).facts t) 0 inputs.now)) }
 {
     for (i, input) in inputs.iter().enumerate() {
@@ -86,11 +82,7 @@ pub(crate) fn check_proved(
 }
 
 /// B12: the first siafund input that names no live siafund output.
-pub(crate) fn check_funds(
-    draft: &Draft<'_>,
-    t: u64,
-    inputs: &[FundInput],
-) -> Result<(), BlockFault>
+pub(crate) fn check_funds(draft: &Draft<'_>, t: u64, inputs: &[FundInput]) -> Result<(), BlockFault>
     ensures { Answers (λ _. tt) block_told result (unless (first_at (no_fund (state_in draft.now).facts t) 0 inputs.now)) }
 {
     for (i, input) in inputs.iter().enumerate() {

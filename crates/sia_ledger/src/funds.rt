@@ -32,11 +32,7 @@ pub(crate) fn spend_funds(
 }
 
 // A siafund output is spent, and its claim made where it isn't 0.
-fn spend_fund(
-    draft: &mut Draft<'_>,
-    maturity: u64,
-    input: &FundInput,
-) -> Result<(), AllocError>
+fn spend_fund(draft: &mut Draft<'_>, maturity: u64, input: &FundInput) -> Result<(), AllocError>
     requires fits { claim_at (state_in draft.old).facts input.now.parent < 2 ^ 128 }
     requires room { next (state_in draft.old) + maturity < 2 ^ 64 }
     ensures done { OnOk result (state_in draft.new ≡ with_fund_input maturity (state_in draft.old) input.now) }

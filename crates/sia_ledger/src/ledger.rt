@@ -1,8 +1,13 @@
 //! The ledger: a chain, and what is kept of it.
-ghost use Rattle.std.specs.Prelude.{◌≡◌, ◌+◌, ◌<◌, ◌≤◌, ◌^◌, ◌↔◌, ◌++◌, Err, IfOk, OnOk, OnErr};
+ghost use Rattle.std.specs.Prelude.{◌≡◌, ◌+◌, ◌<◌, ◌≤◌, ◌^◌, ◌↔◌, ◌++◌, Err, IfOk, OnOk, OnErr, ℕ, List as Sequence, IfErr};
 ghost use Rattle.sia_encoding.specs.Answer.{Answers, unless};
 ghost use Rattle.sia_ids.specs.Identifiers.{block_id};
 ghost use Rattle.sia_rules.specs.Answers.{block_told};
+ghost use Rattle.sia_rules.specs.declared.fault.BlockFault.TheVariants as block_fault;
+ghost use Rattle.sia_ledger.specs.declared.sums.Status.TheVariants as status;
+ghost use Rattle.sia_ledger.specs.Courses.{EachProofIsRight, EndedUnproved, HoldsProof};
+ghost use Rattle.sia_ledger.specs.Kept.{IsSound};
+ghost use Rattle.sia_ledger.specs.Texts.{IsMadeTwice, IsOfType};
 ghost use Rattle.sia_ledger.specs.declared.fault.RevertFault.TheVariants as revert_fault;
 ghost use Rattle.sia_ledger.specs.Answers.{genesis_told};
 ghost use Rattle.sia_ledger.specs.Blocks.{done_by, facts, state_of, with_block};
@@ -24,8 +29,9 @@ use crate::judging::{Judged, judge, judge_alone};
 use crate::owned::owned_by;
 use crate::params::Params;
 use crate::parts::{drop_block, push_block};
-use crate::sums::{Status, Sums};
 use crate::present::{status_among, terms_among};
+use crate::sums::{Status, Sums};
+use crate::typed::Typed;
 use sia_blake::Hash;
 use sia_encoding::{List, Steps};
 use sia_ids::genesis_id;
@@ -77,6 +83,7 @@ impl Ledger {
     {
         check_params(&params)?;
         let Params { maturity, funds } = params;
+        funds.know();
         let id = genesis_id(alloc, funds.as_slice())?;
         let begun = make_genesis(alloc, &id, funds.as_slice())?;
         if begun.twice.is_some() {
@@ -105,6 +112,7 @@ impl Ledger {
         steps: &mut Steps<L>,
     ) -> Result<(), BlockFault>
         ensures judged { Answers (λ _. tt) block_told result (unless (refusal C.verdict self.now block.now)) }
+        ensures twice { IfErr result (λ fault. (id : Sequence ℕ) → fault ≡ block_fault.SameId id → IsMadeTwice (extended self.now block.now) id) }
         ensures counted { steps.new ≡ steps.old + 1 }
     {
         steps.tick();
@@ -126,6 +134,7 @@ impl Ledger {
         ensures judged { Answers (λ _. tt) block_told result (unless (refusal C.verdict self.old block.now)) }
         ensures applied { OnOk result (self.new ≡ extended self.old block.now) }
         ensures unchanged { OnErr result (self.new ≡ self.old) }
+        ensures twice { IfErr result (λ fault. (id : Sequence ℕ) → fault ≡ block_fault.SameId id → IsMadeTwice (extended self.old block.now) id) }
         ensures counted { steps.new ≡ steps.old + 1 }
     {
         steps.tick();
@@ -220,9 +229,13 @@ impl Ledger {
         self.base().ids().get(height as usize).copied()
     }
 
-    /// How the contract with this identifier stands.
+    /// How the contract with this identifier stands: valid exactly where a block of the chain holds a storage proof for it, and
+    /// missed exactly where the chain has the block of its end and no block holds one.
     pub fn status(&self, contract: &Hash) -> Status
         ensures exact { result ≡ status_of self.now contract.now }
+        ensures valid { (result ≡ status.Valid) ↔ HoldsProof self.now contract.now }
+        ensures right { EachProofIsRight self.now }
+        ensures missed { (result ≡ status.Missed) ↔ EndedUnproved self.now contract.now }
     {
         status_among(self.base().facts(), contract)
     }
@@ -248,6 +261,7 @@ impl Ledger {
         ensures next { next result ≡ height self.now + 1 }
         ensures low { height self.now < 2 ^ 32 }
         ensures rested { self.now.maturity ≤ 10000 }
+        ensures sound { IsSound self.now }
         ensures bounded { IsBounded (state_of self.now) }
         ensures within { (block : Block) → IsBounded (with_block block (state_of self.now)) }
         ensures totals { Totals self.now (facts self.now) }
@@ -263,9 +277,12 @@ impl Ledger {
         check: &C,
     ) -> Result<Judged, BlockFault>
         ensures judged { Answers (λ _. tt) block_told result (unless (refusal C.verdict self.now block.now)) }
+        ensures twice { IfErr result (λ fault. (id : Sequence ℕ) → fault ≡ block_fault.SameId id → IsMadeTwice (extended self.now block.now) id) }
+        ensures typed { IsOfType block.now }
         ensures id { IfOk result (λ judged. judged.id ≡ block_id block.now) }
         ensures made { IfOk result (λ judged. (state_of self.now).facts ++ judged.made ≡ (done_by self.now.maturity block.now (state_of self.now)).facts) }
     {
+        block.know();
         judge(alloc, self.maturity, &self.base(), block, check)
     }
 }

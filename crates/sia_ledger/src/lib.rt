@@ -16,12 +16,17 @@
 //!
 //! - [`Ledger::genesis`] begins a chain from [`Params`], or answers exactly the first thing that is wrong with them.
 //! - [`Ledger::check_block`] and [`Ledger::apply`] refuse a block exactly with the first rule that it breaks, of B1 to B24 in
-//!   their order, as the check that is handed in judges signatures. After a refusal the chain is as it was.
+//!   their order, as the check that is handed in judges signatures. After a refusal the chain is as it was. Where a block is
+//!   refused for an identifier that is made a second time, two different byte strings of the chain have one digest.
 //! - [`Ledger::check_set`] answers exactly the first rule that a transaction breaks as the first one of a next block.
 //! - [`Ledger::apply`] puts the block behind the last one, [`Ledger::revert`] drops the last one and is refused exactly at
 //!   the genesis.
 //! - [`Ledger::sums`], [`Ledger::height`], [`Ledger::tip`], [`Ledger::block_at`], [`Ledger::status`], [`Ledger::terms`] and
 //!   [`Ledger::coins`] are those of the present chain. What is live, in escrow and unclaimed together is what was issued.
+//! - [`Ledger::status`] is valid exactly where a block of the chain holds a storage proof for the contract, and missed exactly
+//!   where the chain has the block of its end and none holds one. Each storage proof of the chain is inside the window of its
+//!   contract's terms and, where they store something, correct. No contract is settled twice
+//!   ([`laws::contracts_are_settled_once`]).
 //! - [`Ledger::check_block`] and [`Ledger::apply`] count one step each, [`Ledger::revert`] none.
 //!
 //! Want of memory is the one answer that no clause ties to a cause.
@@ -48,6 +53,7 @@ mod genesis;
 mod heads;
 mod holdings;
 mod judging;
+pub mod laws;
 mod ledger;
 mod lookups;
 mod owned;
@@ -58,6 +64,7 @@ mod proving;
 mod settling;
 mod sums;
 mod transactions;
+mod typed;
 mod unlocking;
 
 pub use fact::{Deed, Fact};

@@ -108,12 +108,7 @@ pub(crate) fn check_timelocks(height: u64, t: u64, tx: &Transaction) -> Result<(
     let revisions = tx.revisions.len() as u64;
     check_list(height, t, 0, &tx.coin_inputs)?;
     check_list(height, t, coins, &tx.revisions)?;
-    check_list(
-        height,
-        t,
-        coins.saturating_add(revisions),
-        &tx.fund_inputs,
-    )
+    check_list(height, t, coins.saturating_add(revisions), &tx.fund_inputs)
 }
 
 // The same of one list, whose first has this index among the needs.
@@ -140,12 +135,7 @@ fn check_each_timelock<T: Locked>(
 }
 
 // The same of one need, which has this index.
-fn check_timelock<T: Locked>(
-    height: u64,
-    t: u64,
-    i: u64,
-    locked: &T,
-) -> Result<(), BlockFault>
+fn check_timelock<T: Locked>(height: u64, t: u64, i: u64, locked: &T) -> Result<(), BlockFault>
     ensures { Answers (λ _. tt) block_told result (unless (locked_fault height t i (T.need locked.now))) }
 {
     if height < locked.conditions().timelock {

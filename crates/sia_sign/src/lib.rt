@@ -16,6 +16,7 @@
 //! - [`check_signatures`] answers exactly the first fault: each signature in order is judged frivolous, locked or refused by the
 //!   check, in this order, and then the needs in order are counted. It is Ok exactly where there is none. Want of memory alone
 //!   is free.
+//! - [`Locked`] is what needs signatures, an input or a revision: it tells the identifier that it unlocks, and its conditions.
 //! - [`Seal`] accepts a signature exactly where it is the seal of the hash under a key of 32 bytes; what [`SealSigner`] makes is
 //!   that seal, so [`Seal`] accepts it and nothing else ([`laws::seals_alone_are_accepted`]).
 //!

@@ -19,8 +19,8 @@ returns-in_err-shape g c =
     let s = state_in c.args.draft.now in
     rw (p.1, p.2)
     (handed_on block_told c.in_err-shape.field-0.0 _ _
-        (λ e is. ap unless (in_two g.C.SigCheck.verdict s c.args.t c.args.tx.now ∙ first_decides (shape_fault c.args.t c.args.tx.now) (state_refusal g.C.SigCheck.verdict s c.args.t c.args.tx.now) e is))
-        c.in_err-shape.ensures)
+    (λ e is. ap unless (in_two g.C.SigCheck.verdict s c.args.t c.args.tx.now ∙ first_decides (shape_fault c.args.t c.args.tx.now) (state_refusal g.C.SigCheck.verdict s c.args.t c.args.tx.now) e is))
+    c.in_err-shape.ensures)
 
 pub returns : goal.returns
 returns g c =

@@ -13,8 +13,8 @@ returns-in_err-check_address g c =
     let p = err_from_is_err_and c.from_residual.result c.from_residual.ensures.1 in
     rw (p.1, p.2)
     (handed_on block_told c.in_err-check_address.field-0.0 _ _
-        (λ e is. ap unless (c.loop-i.invariant ∙ entry_found (wrong_conditions (state_in c.args.draft.now).facts c.args.t) (conditions_as_one (state_in c.args.draft.now).facts c.args.t) g.T.Locked.need c.args.all.now c.args.first c.loop-i.i c.saturating_add-index.result c.index-all-i.result e c.loop-i-test.true c.index-all-i.is c.saturating_add-index.ensures is))
-        c.in_err-check_address.ensures)
+    (λ e is. ap unless (c.loop-i.invariant ∙ entry_found (wrong_conditions (state_in c.args.draft.now).facts c.args.t) (conditions_as_one (state_in c.args.draft.now).facts c.args.t) g.T.Locked.need c.args.all.now c.args.first c.loop-i.i c.saturating_add-index.result c.index-all-i.result e c.loop-i-test.true c.index-all-i.is c.saturating_add-index.ensures is))
+    c.in_err-check_address.ensures)
 
 pub loop-i-preserved : goal.loop-i-preserved
 loop-i-preserved g c =

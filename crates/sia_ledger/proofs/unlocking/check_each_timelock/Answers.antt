@@ -12,8 +12,8 @@ returns-in_err-check_timelock g c =
     let p = err_from_is_err_and c.from_residual.result c.from_residual.ensures.1 in
     rw (p.1, p.2)
     (handed_on block_told c.in_err-check_timelock.field-0.0 _ _
-        (λ e is. ap unless (c.loop-i.invariant ∙ entry_found (locked c.args.height c.args.t) (timelocks_as_one c.args.height c.args.t) g.T.Locked.need c.args.all.now c.args.first c.loop-i.i c.saturating_add-index.result c.index-all-i.result e c.loop-i-test.true c.index-all-i.is c.saturating_add-index.ensures is))
-        c.in_err-check_timelock.ensures)
+    (λ e is. ap unless (c.loop-i.invariant ∙ entry_found (locked c.args.height c.args.t) (timelocks_as_one c.args.height c.args.t) g.T.Locked.need c.args.all.now c.args.first c.loop-i.i c.saturating_add-index.result c.index-all-i.result e c.loop-i-test.true c.index-all-i.is c.saturating_add-index.ensures is))
+    c.in_err-check_timelock.ensures)
 
 pub loop-i-preserved : goal.loop-i-preserved
 loop-i-preserved g c =

@@ -27,3 +27,6 @@ returns-clause-within c = λ block. rw (← c.self.view_is) (rw c.self.invariant
 
 pub returns-clause-totals : goal.returns-clause-totals
 returns-clause-totals c = rw (← c.self.view_is) (rw (← kept_facts _ _ _ _ c.self.invariant) (kept_totals _ _ _ _ c.self.invariant))
+
+pub returns-clause-sound : goal.returns-clause-sound
+returns-clause-sound c = rw (← c.self.view_is) c.self.invariant.sound
