@@ -1,12 +1,14 @@
 //! The words of the command line.
 
+use crate::cuts::Cuts;
 use crate::sectors::Slots;
+use crate::trees::Changes;
 use crate::turns::Crew;
 
 /// What the program prints where the words are wrong: N is less than 1, or more than 2^20 for a shelf, or there are fewer
-/// threads than 1 or more than 64.
+/// threads than 1 or more than 64, or places that no contract has, or pieces that no file is cut into.
 pub(crate) const USAGE: &str =
-    "usage: sia_bench digest FILE N | turn THREADS N | range FILE N | journal FILE N | open FILE | shelf FILE N";
+    "usage: sia_bench digest FILE N | turn THREADS N | range FILE N | journal FILE N | open FILE | shelf FILE N | roottree PLACES CHANGES WHOLES | pieces FILE K N TIMES";
 
 /// What to run.
 #[derive(Clone, Copy)]
@@ -23,6 +25,10 @@ pub(crate) enum Kernel<'a> {
     Open { file: &'a str },
     /// Put and sync as many sectors in the file.
     Shelf { file: &'a str, slots: Slots },
+    /// Change a tree of roots, and hash its list.
+    Tree { changes: Changes },
+    /// Cut the file into pieces, and join it of the last ones.
+    Pieces { file: &'a str, cuts: Cuts },
 }
 
 /// The kernel that the words name.
@@ -32,6 +38,21 @@ pub(crate) fn kernel_of(words: &[String]) -> Option<Kernel<'_>> {
             file: file.as_str(),
         }),
         [name, on, times] => repeated(name.as_str(), on.as_str(), times.as_str().parse().ok()?),
+        [name, places, changes, wholes] if name.as_str() == "roottree" => {
+            let places = places.as_str().parse().ok()?;
+            let changes = changes.as_str().parse().ok()?;
+            let changes = Changes::of(places, changes, wholes.as_str().parse().ok()?)?;
+            Some(Kernel::Tree { changes })
+        }
+        [name, file, k, n, times] if name.as_str() == "pieces" => {
+            let k = k.as_str().parse().ok()?;
+            let n = n.as_str().parse().ok()?;
+            let cuts = Cuts::of(k, n, times.as_str().parse().ok()?)?;
+            Some(Kernel::Pieces {
+                file: file.as_str(),
+                cuts,
+            })
+        }
         _ => None,
     }
 }
@@ -64,7 +85,7 @@ mod tests {
 
     #[test]
     fn words_name_a_kernel(rt: HostRuntime) -> Result<(), Fail> {
-        let cases: [(&[&str], bool); 11] = [
+        let cases: [(&[&str], bool); 16] = [
             (&["digest", "abc", "3"], true),
             (&["digest", "abc", "0"], false),
             (&["digest", "abc", "three"], false),
@@ -76,6 +97,11 @@ mod tests {
             (&["open", "abc", "3"], false),
             (&["shelf", "abc", "1048576"], true),
             (&["shelf", "abc", "1048577"], false),
+            (&["roottree", "65536", "10", "1"], true),
+            (&["roottree", "65537", "10", "1"], false),
+            (&["roottree", "0", "10", "1"], false),
+            (&["pieces", "abc", "10", "16", "1"], true),
+            (&["pieces", "abc", "10", "17", "1"], false),
         ];
         for (line, named) in cases {
             let mut words = Vec::new(rt.alloc());

@@ -13,14 +13,21 @@
 //! `sia_bench range FILE N` makes the root of FILE's bytes N times, and N times proves and checks the range of all their
 //! leaves, and that of all but the first and the last, and prints how many nanoseconds each of the three took, and how
 //! many ranges were accepted.
+//! `sia_bench roottree PLACES CHANGES WHOLES` makes a tree of so many roots, changes one of them and asks for the root CHANGES
+//! times, and hashes the whole list WHOLES times, and prints how many nanoseconds each of the two took, how often each was
+//! done, and 1 where the last roots are the same.
+//! `sia_bench pieces FILE K N TIMES` cuts FILE into N pieces TIMES times, and joins it as often of the last K, and prints how
+//! many nanoseconds each of the two took, how many pieces it cut, and the digest of the last one.
 //! Wrong words give status 1, and a file that can't be read status 2.
 #![tactic(auto)]
 
+mod cuts;
 mod kernel;
 mod ranges;
 mod records;
 mod run;
 mod sectors;
+mod trees;
 mod turns;
 
 use kernel::{USAGE, kernel_of};

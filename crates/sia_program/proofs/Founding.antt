@@ -10,7 +10,7 @@ use Rattle.std.proofs.lemmas.List.Folds.{list_any_none}
 use Rattle.toml.specs.Data.{Data, as_integer, as_array}
 use Rattle.sia_types.specs.declared.funds.FundOutput.{FundOutput}
 use Rattle.sia_ledger.specs.declared.params.Params.{Params}
-use Rattle.sia_ledger.specs.Refusal.{genesis_refusal, wrong_funds, wrong_maturity}
+use Rattle.sia_ledger.specs.Genesis.{genesis_refusal, wrong_funds, wrong_maturity}
 use Rattle.sia_program.specs.declared.config.ConfigFault.TheVariants.{Text, Key}
 use Rattle.sia_program.specs.declared.config.ConfigKey.TheVariants.{Maturity, Siafund}
 use Rattle.sia_encoding.specs.Answer.{◌>>=◌}

@@ -5,6 +5,7 @@ use Rattle.sia_program.specs.declared.form.Form.{Form}
 use Rattle.sia_program.specs.declared.stop.Stop.{Stop}
 use Rattle.sia_program.specs.declared.stop.Stop.TheVariants as stop
 use Rattle.sia_program.specs.Answer.{status_of, IsQuiet, Ended, Fell, IsToldAs, TellsReason, Answered}
+use Rattle.sia_program.specs.Commands.Ledger.{Verdict}
 use Rattle.sia_program.specs.Outcome.{OfOutcome, outcome_of}
 use Rattle.sia_program.specs.Streams.{Stream, Streams}
 
@@ -45,11 +46,11 @@ completed (Err stop.Memory) status given before after Fallen is fell none ended 
 completed (Err stop.Outside) status given before after Fallen is fell none ended = absurd (none (fell is))
 
 -- the command stopped, and why is told
-pub answered_stopped : (form : Form) (reason : Stop) (status : ℕ) (before after : Streams) → TellsReason reason status before.err after.err → IsQuiet (Err reason) before.out after.out
-    → (reason ≡ stop.Outside → Fell form before after) → OfOutcome form before.sources (λ given. Ended (Err reason) given before.out after.out) → Answered form status before after
-answered_stopped form reason status before after (told, same, is, line) quiet fell ended =
+pub answered_stopped : (verdict : Verdict) (form : Form) (reason : Stop) (status : ℕ) (before after : Streams) → TellsReason reason status before.err after.err → IsQuiet (Err reason) before.out after.out
+    → (reason ≡ stop.Outside → Fell form before after) → OfOutcome verdict form before.sources (λ given. Ended (Err reason) given before.out after.out) → Answered verdict form status before after
+answered_stopped verdict form reason status before after (told, same, is, line) quiet fell ended =
     let caused : status ≡ 3 → Fell form before after = λ three. fell (told_outside reason told same (sym is ∙ three)) in
-    let ends : OfOutcome form before.sources (λ given. Ended (Err told) given before.out after.out) = IfSome_then (outcome_of form before.sources) ended (λ given. ended_as_told reason told given before.out after.out same) in
+    let ends : OfOutcome verdict form before.sources (λ given. Ended (Err told) given before.out after.out) = IfSome_then (outcome_of verdict form before.sources) ended (λ given. ended_as_told reason told given before.out after.out same) in
     record {
       end = Err told;
       status_is = is;
@@ -58,5 +59,5 @@ answered_stopped form reason status before after (told, same, is, line) quiet fe
       told = ends;
       ended = λ zero. absurd (no_stop told (sym is ∙ zero));
       outside = caused;
-      complete = λ none. IfSome_then (outcome_of form before.sources) ends (λ given. completed (Err told) status given before.out after.out (Fell form before after) is caused none);
+      complete = λ none. IfSome_then (outcome_of verdict form before.sources) ends (λ given. completed (Err told) status given before.out after.out (Fell form before after) is caused none);
     }

@@ -6,6 +6,7 @@ use Rattle.sia_edge.specs.Whole.{AppendsSomeOf}
 use Rattle.sia_program.specs.declared.form.Form.{Form}
 use Rattle.sia_program.specs.declared.stop.Stop.{Stop}
 use Rattle.sia_program.specs.declared.stop.Stop.TheVariants as stop
+use Rattle.sia_program.specs.Commands.Ledger.{Verdict}
 use Rattle.sia_program.specs.Form.{names_config, names_input}
 use Rattle.sia_program.specs.Lines.{stop_line}
 use Rattle.sia_program.specs.Outcome.{OfOutcome}
@@ -89,12 +90,12 @@ TellsReason reason status before after =
 -- nothing unless the work was done or a call of the outside failed. Over told bytes the end is the one that they give.
 -- At status 0 each source that the form names was read to its end, and status 3 has its cause in the outside. Where none of that
 -- outside failed, the status is that of what the bytes give, or want of memory. No other source counts in these three.
-pub record Answered (form : Form) (status : ℕ) (before after : Streams) : Type 0 where
+pub record Answered (verdict : Verdict) (form : Form) (status : ℕ) (before after : Streams) : Type 0 where
   pub end : Result (Unit {0}) Stop
   pub status_is : status ≡ status_of end
   pub line : TellsEnd end before.err after.err
   pub quiet : IsQuiet end before.out after.out
-  pub told : OfOutcome form before.sources (λ given. Ended end given before.out after.out)
+  pub told : OfOutcome verdict form before.sources (λ given. Ended end given before.out after.out)
   pub ended : status ≡ 0 → ReadToEnds form before.sources after.sources
   pub outside : status ≡ 3 → Fell form before after
-  pub complete : ¬ Fell form before after → OfOutcome form before.sources (λ given. (status ≡ 5) ⊎ (status ≡ status_of given))
+  pub complete : ¬ Fell form before after → OfOutcome verdict form before.sources (λ given. (status ≡ 5) ⊎ (status ≡ status_of given))

@@ -1,6 +1,6 @@
 -- What is printed of a transaction and of a block: a line for each entry of its fields, in order (siad's types/transactions.go,
 -- types/filecontracts.go and types/block.go). Values are in hastings, siafunds or bytes; hashes are hexadecimal.
-use Rattle.std.specs.Prelude.{ℕ, ◌+◌, Bool, List, [], ◌∷◌, ◌++◌, length, codes, decimal, if◌then◌else◌}
+use Rattle.std.specs.Prelude.{ℕ, ◌+◌, List, [], ◌∷◌, ◌++◌, length, codes, decimal}
 use Rattle.hex.specs.Hex.{encode_lower}
 use Rattle.sia_types.specs.declared.block.Block.{Block}
 use Rattle.sia_types.specs.declared.coins.CoinInput.{CoinInput}
@@ -15,6 +15,7 @@ use Rattle.sia_types.specs.declared.transaction.Transaction.{Transaction}
 use Rattle.sia_ids.specs.Conditions.{unlock_hash}
 use Rattle.sia_ids.specs.Identifiers.{block_id, payout_id}
 use Rattle.sia_ids.specs.Transactions.{coin_id, contract_id, fund_id, transaction_id}
+use Rattle.sia_program.specs.Faults.{bool_digit}
 use Rattle.sia_program.specs.Lines.{line}
 
 -- the lines of the entries of a list, of which the first has this index
@@ -86,15 +87,11 @@ fee_line fee = line (codes "fee") (decimal fee)
 abbrev pub note_line : List ℕ → List ℕ
 note_line note = line (codes "note") (decimal (length note))
 
--- a bool as a digit
-abbrev pub digit_of : Bool → ℕ
-digit_of whole = if whole then 1 else 0
-
 -- a signature: whose, by which key, from which height on, and whether it covers the whole transaction
 unfoldable pub signature_line : Signature → List ℕ
 signature_line signature =
     codes "signature " ++ (encode_lower signature.parent ++ (codes " " ++ (decimal signature.key_index
-    ++ (codes " " ++ (decimal signature.timelock ++ (codes " " ++ (decimal (digit_of signature.covered.whole) ++ codes "\n")))))))
+    ++ (codes " " ++ (decimal signature.timelock ++ (codes " " ++ (decimal (bool_digit signature.covered.whole) ++ codes "\n")))))))
 
 -- the lines of what a transaction moves: coins and contracts
 unfoldable pub coin_lines : Transaction → List ℕ

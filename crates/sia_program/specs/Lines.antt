@@ -1,9 +1,7 @@
 -- What is printed: ASCII lines that end with a line feed. Numbers are decimal, hashes 64 lower-case hexadecimal digits. Here stand
 -- the lines that commands share; those of one command stand with it.
 use Rattle.std.specs.Prelude.{ℕ, ◌+◌, List, [], ◌++◌, codes, decimal}
-use Rattle.hex.specs.Hex.{encode_lower}
-use Rattle.sia_ledger.specs.declared.fault.BlockFault.{BlockFault}
-use Rattle.sia_ledger.specs.declared.fault.BlockFault.TheVariants as block_fault
+use Rattle.sia_program.specs.Faults.{block_fault_text}
 use Rattle.sia_program.specs.declared.config.ConfigKey.{ConfigKey}
 use Rattle.sia_program.specs.declared.config.ConfigKey.TheVariants as key
 use Rattle.sia_program.specs.declared.stop.Refusal.{Refusal}
@@ -15,14 +13,6 @@ use Rattle.sia_program.specs.declared.stop.Stop.TheVariants as stop
 unfoldable pub line : List ℕ → List ℕ → List ℕ
 line name value = name ++ (codes " " ++ (value ++ codes "\n"))
 
--- a rule that a block breaks: its number, its name, and its fields in order. Want of memory is none of them.
-unfoldable pub block_fault_text : BlockFault → List ℕ
-block_fault_text (block_fault.BadParent tip) = codes "B1 BadParent " ++ encode_lower tip
-block_fault_text block_fault.HeightEnd = codes "B3 HeightEnd"
-block_fault_text (block_fault.PayoutSum need got) = codes "B6 PayoutSum " ++ (decimal need ++ (codes " " ++ decimal got))
-block_fault_text (block_fault.SameId id) = codes "B24 SameId " ++ encode_lower id
-block_fault_text block_fault.Memory = []
-
 -- a key of the configuration, behind its table
 abbrev pub key_text : ConfigKey → List ℕ
 key_text key.Maturity = codes "chain.maturity"
@@ -32,7 +22,7 @@ key_text key.Siafund = codes "chain.siafund"
 unfoldable pub refusal_text : Refusal → List ℕ
 refusal_text refusal.ConfigText = codes "config text"
 refusal_text (refusal.ConfigKey key) = codes "config " ++ key_text key
-refusal_text refusal.FeedForm = codes "feed form"
+refusal_text (refusal.Feed at) = codes "feed at " ++ decimal at
 refusal_text (refusal.Block tip_height rule) = codes "block " ++ (decimal (tip_height + 1) ++ (codes " " ++ block_fault_text rule))
 refusal_text refusal.NoBlock = codes "feed NoBlock"
 refusal_text refusal.Range = codes "range"

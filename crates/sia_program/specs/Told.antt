@@ -1,10 +1,8 @@
 -- What the code's errors tell, and how the refusal of a step ends a command. Want of memory tells nothing, nor does a fault of
 -- the outside.
-use Rattle.std.specs.Prelude.{Option, Some, None, Result, Ok, Err}
+use Rattle.std.specs.Prelude.{ℕ, Option, Some, None, Result, Ok, Err}
 use Rattle.sia_encoding.specs.declared.fault.DecodeFault.{DecodeFault}
 use Rattle.sia_encoding.specs.declared.fault.DecodeFault.TheVariants as decode_fault
-use Rattle.sia_ledger.specs.declared.fault.BlockFault.{BlockFault}
-use Rattle.sia_ledger.specs.declared.fault.BlockFault.TheVariants as block_fault
 use Rattle.sia_program.specs.declared.config.ConfigFault.{ConfigFault}
 use Rattle.sia_program.specs.declared.config.ConfigFault.TheVariants as config_fault
 use Rattle.sia_program.specs.declared.stop.Refusal.{Refusal}
@@ -13,11 +11,6 @@ use Rattle.sia_program.specs.declared.stop.Fault.{Fault}
 use Rattle.sia_program.specs.declared.stop.Fault.TheVariants as fault
 use Rattle.sia_program.specs.declared.stop.Stop.{Stop}
 use Rattle.sia_program.specs.declared.stop.Stop.TheVariants as stop
-
--- the rule of blocks that a fault tells
-abbrev pub rule_told : BlockFault → Option BlockFault
-rule_told block_fault.Memory = None
-rule_told rule = Some rule
 
 -- the refusal that a configuration's fault tells
 abbrev pub config_told : ConfigFault → Option ConfigFault
@@ -37,15 +30,30 @@ stop_told stop.Long = Some stop.Long
 stop_told stop.Outside = None
 stop_told stop.Memory = None
 
--- bytes that can't be read refuse the feed
-abbrev pub or_bad_form : {A : Type 0} → Result A DecodeFault → Result A Refusal
-or_bad_form (Ok x) = Ok x
-or_bad_form (Err unread) = Err refusal.FeedForm
+-- the place of a fault of bytes, from 0
+abbrev pub place_of : DecodeFault → ℕ
+place_of (decode_fault.Short at) = at
+place_of (decode_fault.BadBool at) = at
+place_of (decode_fault.BadKind at) = at
+place_of (decode_fault.BadCurrency at) = at
+place_of (decode_fault.TooLong at) = at
+place_of (decode_fault.Rest at) = at
+place_of decode_fault.Memory = 0
 
--- the fault of bytes of a feed that can't be read
-abbrev pub decode_fault_told : DecodeFault → Fault
-decode_fault_told decode_fault.Memory = fault.Memory
-decode_fault_told _ = fault.Refused refusal.FeedForm
+-- the same, where it says something of the bytes
+abbrev pub place_told : DecodeFault → Option ℕ
+place_told decode_fault.Memory = None
+place_told unread = Some (place_of unread)
+
+-- bytes that can't be read are refused at the place of their fault, in one case or another
+abbrev pub or_refused_at : {A : Type 0} → (ℕ → Refusal) → Result A DecodeFault → Result A Refusal
+or_refused_at case (Ok x) = Ok x
+or_refused_at case (Err unread) = Err (case (place_of unread))
+
+-- how a fault of bytes is told. Want of memory says nothing of them.
+abbrev pub told_at : (ℕ → Refusal) → DecodeFault → Fault
+told_at case decode_fault.Memory = fault.Memory
+told_at case unread = fault.Refused (case (place_of unread))
 
 -- how a refused configuration ends the command
 abbrev pub config_stop : ConfigFault → Stop

@@ -4,7 +4,7 @@ ghost use Rattle.std.specs.Prelude.{length, sum_by, ◌*◌, ◌<◌, ◌^◌, �
 ghost use Rattle.std.specs.Option.{ok_or};
 ghost use Rattle.toml.specs.View.{view, array_view, items_view};
 ghost use Rattle.sia_encoding.specs.Answer.{Answers};
-ghost use Rattle.sia_ledger.specs.Refusal.{genesis_refusal};
+ghost use Rattle.sia_ledger.specs.Genesis.{genesis_refusal};
 ghost use Rattle.sia_program.specs.Told.{config_told};
 ghost use Rattle.sia_program.specs.Config.{document, chain_key, between, integer_or, maturity_of, address_of, siafund_of, siafunds_of_items, siafund_sum, is_whole_issue as is_whole_issue_of, siafunds_of, config_of};
 

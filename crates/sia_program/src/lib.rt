@@ -8,7 +8,7 @@
 //! ```
 //! let mut config = FileSource::empty();
 //! let mut input = FileSource::open(&rt, "sector".as_bytes());
-//! let status = run_plain(alloc, words.as_slice(), &mut config, &mut input, &mut out, &mut err);
+//! let status = run_plain(alloc, words.as_slice(), &mut config, &mut input, &Seal, &mut out, &mut err);
 //! ```
 //!
 //! # Promises
@@ -26,7 +26,8 @@
 //!   hashes that prove a range of its leaves ([`prove_text`]), the fields of a transaction or a block
 //!   ([`transaction_lines`], [`block_lines`]), and the line of each refusal ([`refused_line`]).
 //! - A configuration is read to the chain's parameters or to its first refusal ([`config::read_config`]); an accepted one
-//!   begins a chain that nothing but want of memory refuses. A feed is read to its records or refused ([`read_feed`]).
+//!   begins a chain that nothing but want of memory refuses. A feed's records are read and done in turn, and the first that
+//!   can't be read or is refused decides ([`take_record`]).
 //! - A refusal of a block holds a rule, and never want of memory ([`BrokenRule`]).
 //!
 //! # Stands on
@@ -39,11 +40,13 @@
 mod commands;
 pub mod config;
 mod entries;
+mod faults;
 mod feed;
 mod fields;
 mod form;
 mod input;
 mod lines;
+mod places;
 mod plain;
 mod rule;
 mod stop;
@@ -53,7 +56,7 @@ mod words;
 pub use commands::ledger::sums_text;
 pub use commands::prove::prove_text;
 pub use commands::root::root_text;
-pub use feed::{FeedRecord, read_feed};
+pub use feed::{FeedRecord, take_record};
 pub use fields::{block_lines, transaction_lines};
 pub use form::{FilePlaces, Form, read_form};
 pub use plain::run_plain;

@@ -16,18 +16,19 @@ use crate::commands::show::{text_of_block, text_of_transaction};
 use crate::form::{Form, read_form};
 use crate::stop::Stop;
 use crate::telling::{tell, write_line};
-use sia_edge::{Sink, Source, write_all};
+use sia_edge::{SigCheck, Sink, Source, write_all};
 use sia_encoding::Blob;
 use std::alloc::Global;
 
 /// What a form prints. A source that the form doesn't name isn't touched.
-fn text_of<S: Source>(
+fn text_of<S: Source, C: SigCheck>(
     alloc: Global,
     form: Form,
     config: &mut S,
     input: &mut S,
+    check: &C,
 ) -> Result<String, Stop>
-    ensures told { OfOutcome form (sources S.left S.faults config.old input.old) (λ given. Answers string_bytes stop_told result given) }
+    ensures told { OfOutcome C.verdict form (sources S.left S.faults config.old input.old) (λ given. Answers string_bytes stop_told result given) }
     ensures ended { OnOk result (ReadToEnds form (sources S.left S.faults config.old input.old) (sources S.left S.faults config.new input.new)) }
     ensures failed { result ≡ Err Stop.Outside → ReadFell form (sources S.left S.faults config.old input.old) (sources S.left S.faults config.new input.new) }
     ensures config_unread { names_config form ≡ false → config.new ≡ config.old }
@@ -36,7 +37,7 @@ fn text_of<S: Source>(
     ensures input_later { S.faults input.old ≤ S.faults input.new }
 {
     match form {
-        Form::Ledger => text_of_ledger(alloc, config, input),
+        Form::Ledger => text_of_ledger(alloc, config, input, check),
         Form::Root => text_of_root(alloc, input),
         Form::Prove { start, end } => text_of_prove(alloc, start, end, input),
         Form::ShowTransaction => text_of_transaction(alloc, input),
@@ -45,14 +46,15 @@ fn text_of<S: Source>(
 }
 
 /// Prints what a form prints, once its whole input is read and accepted.
-fn print<S: Source, K: Sink>(
+fn print<S: Source, K: Sink, C: SigCheck>(
     alloc: Global,
     form: Form,
     config: &mut S,
     input: &mut S,
+    check: &C,
     out: &mut K,
 ) -> Result<(), Stop>
-    ensures told { OfOutcome form (sources S.left S.faults config.old input.old)
+    ensures told { OfOutcome C.verdict form (sources S.left S.faults config.old input.old)
         (λ given. Ended result given (stream K.taken K.faults out.old) (stream K.taken K.faults out.new)) }
     ensures quiet { IsQuiet result (stream K.taken K.faults out.old) (stream K.taken K.faults out.new) }
     ensures ended { OnOk result (ReadToEnds form (sources S.left S.faults config.old input.old) (sources S.left S.faults config.new input.new)) }
@@ -65,7 +67,7 @@ fn print<S: Source, K: Sink>(
     ensures input_later { S.faults input.old ≤ S.faults input.new }
     ensures out_later { K.faults out.old ≤ K.faults out.new }
 {
-    let text = text_of(alloc, form, config, input)?;
+    let text = text_of(alloc, form, config, input, check)?;
     match write_all(out, text.as_str().as_bytes()) {
         Ok(()) => Ok(()),
         Err(_) => Err(Stop::Outside),
@@ -77,7 +79,7 @@ fn print<S: Source, K: Sink>(
 /// The forms are:
 ///
 /// - `ledger CONFIG FEED`: `config` gives the bytes of CONFIG, at most 65,536, and `input` those of FEED, at most 2^30. It
-///   applies the feed to the chain that the configuration begins, and writes the sums to `out`.
+///   applies the feed to the chain that the configuration begins, where `check` judges signatures, and writes the sums to `out`.
 /// - `root FILE`: `input` gives the bytes of FILE, at most 2^30, which are hashed as they are read, 65,536 at a time. It writes
 ///   the file's Merkle root, the count of its leaves and that of its bytes to `out`. `config` isn't read.
 /// - `prove FILE A B`: the same, and A and B are decimal numbers below 2^64 without sign or leading zero. It writes the
@@ -99,11 +101,12 @@ fn print<S: Source, K: Sink>(
 /// | 8 | the configuration or the input is longer than its bound | `sia-v1: input too long` |
 ///
 /// A write to `err` that fails changes no status.
-pub fn run_plain<S: Source, K: Sink>(
+pub fn run_plain<S: Source, K: Sink, C: SigCheck>(
     alloc: Global,
     words: &[Blob],
     config: &mut S,
     input: &mut S,
+    check: &C,
     out: &mut K,
     err: &mut K,
 ) -> u8
@@ -115,7 +118,7 @@ pub fn run_plain<S: Source, K: Sink>(
 
     // What words with a form answer and leave in the outside.
     ensures answered { (form : Form) → form_of words.now ≡ Some form →
-        Answered form result
+        Answered C.verdict form result
         (record {
           sources = sources S.left S.faults config.old input.old;
           out = stream K.taken K.faults out.old;
@@ -135,7 +138,7 @@ pub fn run_plain<S: Source, K: Sink>(
         write_line(err, "sia-v1: usage\n".as_bytes());
         return 1;
     };
-    match print(alloc, form, config, input, out) {
+    match print(alloc, form, config, input, check, out) {
         Ok(()) => 0,
         Err(stop) => tell(alloc, stop, err),
     }

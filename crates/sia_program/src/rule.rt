@@ -1,9 +1,9 @@
 //! A rule of blocks that is broken.
 ghost use Rattle.std.specs.Prelude.{◌≡◌, ◌≢◌};
-ghost use Rattle.sia_ledger.specs.declared.fault.BlockFault.TheVariants as block_fault;
-ghost use Rattle.sia_program.specs.Told.{rule_told};
+ghost use Rattle.sia_rules.specs.declared.fault.BlockFault.TheVariants as block_fault;
+ghost use Rattle.sia_rules.specs.Answers.{block_told};
 
-use sia_ledger::BlockFault;
+use sia_rules::BlockFault;
 use std::marker::Model;
 
 /// The rule that a block breaks: any fault of a block but want of memory. Contracts see it as that fault.
@@ -14,8 +14,8 @@ pub struct BrokenRule {
 
 impl Model for BrokenRule {
     ghost use Rattle.std.specs.Prelude.{◌≢◌};
-    ghost use Rattle.sia_ledger.specs.declared.fault.BlockFault.{BlockFault};
-    ghost use Rattle.sia_ledger.specs.declared.fault.BlockFault.TheVariants as block_fault;
+    ghost use Rattle.sia_rules.specs.declared.fault.BlockFault.{BlockFault};
+    ghost use Rattle.sia_rules.specs.declared.fault.BlockFault.TheVariants as block_fault;
 
     ghost Value = { BlockFault };
 
@@ -29,7 +29,7 @@ impl Model for BrokenRule {
 impl BrokenRule {
     /// The rule that a fault names; none for want of memory.
     pub fn of(fault: BlockFault) -> Option<BrokenRule>
-        ensures { result ≡ rule_told fault }
+        ensures { result ≡ block_told fault }
     {
         match fault {
             BlockFault::Memory => None,

@@ -3,7 +3,6 @@ ghost use Rattle.std.specs.Prelude.{◌≡◌};
 
 use crate::config::{ConfigFault, ConfigKey};
 use crate::rule::BrokenRule;
-use sia_encoding::DecodeFault;
 use std::alloc::AllocError;
 
 /// What is refused of the configuration or the input.
@@ -14,7 +13,10 @@ pub enum Refusal {
     /// The configuration's value at this key.
     ConfigKey(ConfigKey),
     /// The feed's bytes are no list of records.
-    FeedForm,
+    Feed {
+        /// The offset of their first fault.
+        at: u64,
+    },
     /// A block of the feed.
     Block {
         /// The height of the tip that it was to follow.
@@ -62,19 +64,6 @@ impl From<AllocError> for Fault {
 
     fn from(_error: AllocError) -> Fault {
         Fault::Memory
-    }
-}
-
-impl From<DecodeFault> for Fault {
-    ghost use Rattle.sia_program.specs.Told.{decode_fault_told};
-
-    ghost from_gives = { λ fault made. made ≡ decode_fault_told fault };
-
-    fn from(fault: DecodeFault) -> Fault {
-        match fault {
-            DecodeFault::Memory => Fault::Memory,
-            _ => Fault::Refused(Refusal::FeedForm),
-        }
     }
 }
 

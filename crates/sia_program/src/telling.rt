@@ -2,36 +2,14 @@
 ghost use Rattle.std.specs.Prelude.{◌≡◌, IfOk, string_bytes};
 ghost use Rattle.sia_program.specs.Answer.{Tells, TellsReason};
 ghost use Rattle.sia_program.specs.Lines.{key_text, stop_line};
-ghost use Rattle.sia_program.specs.Lines.{block_fault_text as block_fault_text_of, refusal_text as refusal_text_of};
+ghost use Rattle.sia_program.specs.Lines.{refusal_text as refusal_text_of};
 ghost use Rattle.sia_program.specs.Streams.{stream};
 
 use crate::config::ConfigKey;
-use crate::lines::hash_text;
-use crate::rule::BrokenRule;
+use crate::faults::rule_text;
 use crate::stop::{Refusal, Stop};
 use sia_edge::{Sink, write_all};
-use sia_ledger::BlockFault;
 use std::alloc::{AllocError, Global};
-
-/// A rule that a block breaks: its number, its name, and its fields in order.
-#[tactic(auto, unfolding(crate::specs::Lines::block_fault_text))]
-fn rule_text(alloc: Global, rule: &BrokenRule) -> Result<String, AllocError>
-    ensures { IfOk result (λ text. string_bytes text ≡ block_fault_text_of rule.now) }
-{
-    match rule.fault() {
-        BlockFault::BadParent { tip } => {
-            let tip = hash_text(alloc, &tip)?;
-            format!(in alloc; "B1 BadParent {tip}")
-        }
-        BlockFault::HeightEnd => String::from_str(alloc, "B3 HeightEnd"),
-        BlockFault::PayoutSum { need, got } => format!(in alloc; "B6 PayoutSum {need} {got}"),
-        BlockFault::SameId { id } => {
-            let id = hash_text(alloc, &id)?;
-            format!(in alloc; "B24 SameId {id}")
-        }
-        BlockFault::Memory => unreachable!(),
-    }
-}
 
 fn key_name(key: ConfigKey) -> &'static str
     ensures { result.now ≡ key_text key }
@@ -53,10 +31,10 @@ fn refusal_text(alloc: Global, refusal: &Refusal) -> Result<String, AllocError>
             let name = key_name(*key);
             format!(in alloc; "config {name}")
         }
-        Refusal::FeedForm => String::from_str(alloc, "feed form"),
+        Refusal::Feed { at } => format!(in alloc; "feed at {at}"),
         Refusal::Block { tip_height, rule } => {
             let height = u128::from(*tip_height) + 1;
-            let rule = rule_text(alloc, rule)?;
+            let rule = rule_text(alloc, &rule.fault())?;
             format!(in alloc; "block {height} {rule}")
         }
         Refusal::NoBlock => String::from_str(alloc, "feed NoBlock"),

@@ -2,6 +2,7 @@
 use sia_edge::{MemSink, MemSource};
 use sia_encoding::{Blob, List};
 use sia_program::run_plain;
+use sia_sign::Seal;
 use std::alloc::Global;
 use std::process::Abort;
 use std::test::Fail;
@@ -105,6 +106,7 @@ pub fn check(
         words.as_slice(),
         &mut config,
         &mut input,
+        &Seal,
         &mut out,
         &mut err,
     );

@@ -80,19 +80,19 @@ fn a_feed_is_applied_or_refused_by_its_first_case(rt: HostRuntime) -> Result<(),
             told(2, "sia-v1: refused feed NoBlock\n"),
         ),
         (
-            "the form of the whole feed is judged before any record",
+            "a record is done before the next one is read",
             &["02", FIRST, "00"],
-            told(2, "sia-v1: refused feed form\n"),
+            told(2, "sia-v1: refused feed NoBlock\n"),
         ),
         (
             "a record that ends early",
             &[FIRST, "01"],
-            told(2, "sia-v1: refused feed form\n"),
+            told(2, "sia-v1: refused feed at 119\n"),
         ),
         (
             "a record of no kind",
-            &["03"],
-            told(2, "sia-v1: refused feed form\n"),
+            &[FIRST, "03"],
+            told(2, "sia-v1: refused feed at 118\n"),
         ),
     ];
     for (name, records, wanted) in cases {

@@ -10,3 +10,5 @@ mod ledger;
 mod prove;
 #[cfg(test)]
 mod root;
+#[cfg(test)]
+mod show;

@@ -52,6 +52,15 @@ fn the_hashes_of_the_cover_are_printed_from_left_to_right(rt: HostRuntime) -> Re
              hash 5450d0d0dc7eb22a12f09617236354bde65426d37c7221ea1dad7ff37b58ab26\n",
         ),
         (
+            "of five pieces of 1,024 leaves, the third one",
+            327_680,
+            ["2048", "3072"],
+            "root 6c94d14d7f86de62503562283977ab00e0dcfd2fbff33bc123340bc33492b2e1 leaves 5120\n\
+             hash bd89eca11ed9b2f123011f1333b22b628face87dfdcd5b88be1ba9071cc211ab\n\
+             hash c892652b2887d0a8851a41fc5dd542ce2e552b15f438891690211b99cffa53c8\n\
+             hash 46d4467d869c9df50a58e33bfc66899716ffe89ff68acbb2d9d864f5e6d332d5\n",
+        ),
+        (
             "a file of one leaf",
             1,
             ["0", "1"],

@@ -6,6 +6,7 @@
 use sia_edge::{FileSource, StdSink, write_all};
 use sia_encoding::{Blob, List};
 use sia_program::{read_form, run_plain};
+use sia_sign::Seal;
 use std::alloc::{AllocError, Global};
 use std::env::{Env, FillError};
 use std::fs::File;
@@ -77,6 +78,7 @@ fn main(rt: HostRuntime) -> ExitCode {
                 words.as_slice(),
                 &mut config,
                 &mut input,
+                &Seal,
                 &mut out,
                 &mut err,
             );

@@ -2,7 +2,6 @@
 use Rattle.std.specs.Prelude.{ℕ, List, [], ◌∷◌, codes, nat_eq, if◌then◌else◌, Option, Some, None, Result, Ok, Err}
 use Rattle.std.specs.Cmp.Lexicographic.{pointwise}
 use Rattle.sia_encoding.specs.declared.fault.DecodeFault.{DecodeFault}
-use Rattle.sia_encoding.specs.declared.fault.DecodeFault.TheVariants as decode_fault
 use Rattle.sia_encoding.specs.Answer.{◌>>=◌}
 use Rattle.sia_encoding.specs.Codec.{Codec, spot}
 use Rattle.sia_encoding.specs.Reading.{end_at}
@@ -11,14 +10,11 @@ use Rattle.sia_types.specs.Transaction.{transaction}
 use Rattle.sia_program.specs.declared.form.FilePlaces.{FilePlaces}
 use Rattle.sia_program.specs.declared.form.Form.{Form}
 use Rattle.sia_program.specs.declared.form.Form.TheVariants as form
-use Rattle.sia_program.specs.declared.stop.Fault.{Fault}
-use Rattle.sia_program.specs.declared.stop.Fault.TheVariants as fault
-use Rattle.sia_program.specs.declared.stop.Refusal.{Refusal}
 use Rattle.sia_program.specs.declared.stop.Refusal.TheVariants as refusal
 use Rattle.sia_program.specs.declared.stop.Stop.{Stop}
 use Rattle.sia_program.specs.Fields.{block_lines, transaction_lines}
 use Rattle.sia_program.specs.Inputs.{within}
-use Rattle.sia_program.specs.Told.{or_refused}
+use Rattle.sia_program.specs.Told.{or_refused, or_refused_at}
 
 -- the form that shows a kind of record, if the word is one
 abbrev pub kind_shown : List ℕ → Option Form
@@ -35,26 +31,6 @@ show_form _ = None
 abbrev pub show_files : FilePlaces
 show_files = record { config = None; input = Some 2 }
 
--- the place of a fault of bytes
-abbrev pub place_of : DecodeFault → ℕ
-place_of (decode_fault.Short at) = at
-place_of (decode_fault.BadBool at) = at
-place_of (decode_fault.BadKind at) = at
-place_of (decode_fault.BadCurrency at) = at
-place_of (decode_fault.TooLong at) = at
-place_of (decode_fault.Rest at) = at
-place_of decode_fault.Memory = 0
-
--- how a fault of the input's bytes is told: by its place, from 0. Want of memory says nothing of them.
-abbrev pub input_fault : DecodeFault → Fault
-input_fault decode_fault.Memory = fault.Memory
-input_fault unread = fault.Refused (refusal.Input (place_of unread))
-
--- bytes that can't be read refuse the input, at the place of the fault
-abbrev pub or_input_refused : {A : Type 0} → Result A DecodeFault → Result A Refusal
-or_input_refused (Ok x) = Ok x
-or_input_refused (Err unread) = Err (refusal.Input (place_of unread))
-
 -- one record, and nothing behind it; no length and no count passes 2,000,000
 unfoldable pub whole_record : {A : Type 0} → Codec A → List ℕ → Result A DecodeFault
 whole_record codec bytes = do
@@ -66,7 +42,7 @@ whole_record codec bytes = do
 unfoldable pub shown : {A : Type 0} → Codec A → (A → List ℕ) → List ℕ → Result (List ℕ) Stop
 shown codec lines file = do
   bytes ← within 2000000 file
-  value ← or_refused (or_input_refused (whole_record codec bytes))
+  value ← or_refused (or_refused_at refusal.Input (whole_record codec bytes))
   Ok (lines value)
 
 -- the text of `show transaction`

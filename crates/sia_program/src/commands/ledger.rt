@@ -3,23 +3,24 @@ ghost use Rattle.std.specs.Prelude.{◌≡◌, ◌≤◌, ◌⊎◌, Err, None, 
 ghost use Rattle.sia_edge.specs.Edge.{Rose};
 ghost use Rattle.sia_encoding.specs.Answer.{Answers};
 ghost use Rattle.sia_ledger.specs.Chain.{begun};
-ghost use Rattle.sia_ledger.specs.Refusal.{genesis_refusal};
+ghost use Rattle.sia_ledger.specs.Genesis.{genesis_refusal};
 ghost use Rattle.sia_program.specs.Answer.{ReadToEnd};
-ghost use Rattle.sia_program.specs.Commands.Ledger.{applied, begin, finish, ledger_outcome, after_record, reverted, run};
+ghost use Rattle.sia_program.specs.Commands.Ledger.{after_record, applied, begin, done_at, finish, ledger_outcome, reverted, run};
 ghost use Rattle.sia_program.specs.Commands.Ledger.{ledger_form as ledger_form_of, sums_text as sums_text_of};
 ghost use Rattle.sia_program.specs.Outcome.{given_both};
 ghost use Rattle.sia_program.specs.Told.{refusal_told, stop_told};
 
 use crate::config::read_config;
-use crate::feed::{FeedRecord, read_feed};
+use crate::feed::{FeedRecord, is_at_end, take_record};
 use crate::form::{FilePlaces, Form};
 use crate::input::{CONFIG_BOUND, INPUT_BOUND, read_within};
 use crate::lines::{hash_text, put_number, put_text};
 use crate::rule::BrokenRule;
 use crate::stop::{Fault, Refusal, Stop};
 use sia_blake::Hash;
-use sia_edge::Source;
-use sia_encoding::{Blob, Steps};
+use sia_edge::{SigCheck, Source};
+use sia_encoding::limits::BLOCK_BYTES;
+use sia_encoding::{Blob, Cursor, Steps};
 use sia_ledger::{Block, GenesisFault, Ledger, Params, RevertFault, Sums};
 use std::alloc::{AllocError, Global};
 use std::marker::Brand;
@@ -61,19 +62,20 @@ fn begin_ledger(alloc: Global, params: Params) -> Result<Ledger, Fault>
 }
 
 #[tactic(auto, unfolding(crate::specs::Commands::Ledger::applied))]
-fn apply<L: StepBook>(
+fn apply<C: SigCheck, L: StepBook>(
     alloc: Global,
     ledger: &mut Ledger,
     block: &Block,
+    check: &C,
     steps: &mut Steps<L>,
 ) -> Result<(), Fault>
-    ensures { Answers (λ _. ledger.new) refusal_told result (applied ledger.old block.now) }
+    ensures { Answers (λ _. ledger.new) refusal_told result (applied C.verdict ledger.old block.now) }
 {
-    match ledger.apply(alloc, block, steps) {
+    match ledger.apply(alloc, block, check, steps) {
         Ok(()) => Ok(()),
         Err(fault) => match BrokenRule::of(fault) {
             Some(rule) => Err(Fault::Refused(Refusal::Block {
-                tip_height: ledger.sums().height,
+                tip_height: ledger.height(),
                 rule,
             })),
             None => Err(Fault::Memory),
@@ -92,46 +94,74 @@ fn revert<L: StepBook>(ledger: &mut Ledger, steps: &mut Steps<L>) -> Result<(), 
     }
 }
 
-fn follow<L: StepBook>(
+fn follow<C: SigCheck, L: StepBook>(
     alloc: Global,
     ledger: &mut Ledger,
     record: &FeedRecord,
+    check: &C,
     steps: &mut Steps<L>,
 ) -> Result<(), Fault>
-    ensures { Answers (λ _. ledger.new) refusal_told result (after_record ledger.old record.now) }
+    ensures { Answers (λ _. ledger.new) refusal_told result (after_record C.verdict ledger.old record.now) }
 {
     match record {
-        FeedRecord::Apply(block) => apply(alloc, ledger, block, steps),
+        FeedRecord::Apply(block) => apply(alloc, ledger, block, check, steps),
         FeedRecord::Revert => revert(ledger, steps),
     }
 }
 
-fn run_counted<L: StepBook>(
+/// Reads the next record of a feed, and does it.
+#[tactic(auto, unfolding(crate::specs::Commands::Ledger::done_at))]
+fn do_record<C: SigCheck, L: StepBook>(
     alloc: Global,
     ledger: &mut Ledger,
-    records: &[FeedRecord],
+    cursor: &mut Cursor,
+    check: &C,
+    steps: &mut Steps<L>,
+) -> Result<(), Fault>
+    ensures { Answers (λ _. (ledger.new, cursor.new)) refusal_told result (done_at C.verdict cursor.old ledger.old) }
+{
+    let record = take_record(alloc, cursor)?;
+    follow(alloc, ledger, &record, check, steps)
+}
+
+/// Reads and does the records of a feed in turn, up to the first that can't be read or is refused.
+#[tactic(auto, unfolding(crate::specs::Commands::Ledger::run))]
+fn run_counted<C: SigCheck, L: StepBook>(
+    alloc: Global,
+    ledger: &mut Ledger,
+    feed: &[u8],
+    check: &C,
     blank: Blank,
 ) -> Result<(), Fault>
     requires name { blank.name ≡ L.name }
     requires parts { blank.parts ≡ L.parts }
     requires one { blank.parts ≡ 1 }
-    ensures { Answers (λ _. ledger.new) refusal_told result (run ledger.old records.now) }
+    ensures { Answers (λ _. ledger.new) refusal_told result (run C.verdict ledger.old feed.now) }
 {
     let mut steps = Steps::<L>::new(blank);
-    for record in records {
-        match follow(alloc, ledger, record, &mut steps) {
+    let mut cursor = Cursor::new(feed, BLOCK_BYTES);
+    for i in 0..feed.len() + 1 {
+        if is_at_end(&cursor) {
+            return Ok(());
+        }
+        match do_record(alloc, ledger, &mut cursor, check, &mut steps) {
             Ok(()) => {}
             Err(fault) => return Err(fault),
         }
     }
-    Ok(())
+    Err(Fault::Refused(Refusal::Feed { at: cursor.at() }))
 }
 
-/// Applies and reverts as the records say, up to the first that is refused.
-fn run_records(alloc: Global, ledger: &mut Ledger, records: &[FeedRecord]) -> Result<(), Fault>
-    ensures { Answers (λ _. ledger.new) refusal_told result (run ledger.old records.now) }
+/// The same, where nobody counts the steps.
+fn run_feed<C: SigCheck>(
+    alloc: Global,
+    ledger: &mut Ledger,
+    feed: &[u8],
+    check: &C,
+) -> Result<(), Fault>
+    ensures { Answers (λ _. ledger.new) refusal_told result (run C.verdict ledger.old feed.now) }
 {
-    run_counted::<Brand>(alloc, ledger, records, Blank::new(1))
+    run_counted::<C, Brand>(alloc, ledger, feed, check, Blank::new(1))
 }
 
 /// The lines of a chain's sums and its tip.
@@ -168,27 +198,32 @@ fn begin_from<S: Source>(alloc: Global, config: &mut S) -> Result<Ledger, Stop>
 
 /// The lines of what a feed makes of a ledger.
 #[tactic(auto, unfolding(crate::specs::Commands::Ledger::finish))]
-fn finish_with<S: Source>(alloc: Global, mut ledger: Ledger, input: &mut S) -> Result<String, Stop>
-    ensures told { IfSome (S.left input.old) (λ left. Answers string_bytes stop_told result (finish ledger left)) }
+fn finish_with<S: Source, C: SigCheck>(
+    alloc: Global,
+    mut ledger: Ledger,
+    input: &mut S,
+    check: &C,
+) -> Result<String, Stop>
+    ensures told { IfSome (S.left input.old) (λ left. Answers string_bytes stop_told result (finish C.verdict ledger left)) }
     ensures ended { OnOk result (ReadToEnd (S.left input.old) (S.left input.new)) }
     ensures later { S.faults input.old ≤ S.faults input.new }
     ensures failed { result ≡ Err Stop.Outside → Rose (S.faults input.old) (S.faults input.new) }
 {
     let bytes = read_within(alloc, input, INPUT_BOUND)?;
-    let records = read_feed(alloc, bytes.as_slice())?;
-    run_records(alloc, &mut ledger, records.as_slice())?;
+    run_feed(alloc, &mut ledger, bytes.as_slice(), check)?;
     let text = sums_text(alloc, &ledger.sums(), &ledger.tip())?;
     Ok(text)
 }
 
 /// What `ledger` prints: the sums of the chain that a configuration and a feed make.
 #[tactic(auto, unfolding(crate::specs::Commands::Ledger::ledger_outcome))]
-pub(crate) fn text_of_ledger<S: Source>(
+pub(crate) fn text_of_ledger<S: Source, C: SigCheck>(
     alloc: Global,
     config: &mut S,
     input: &mut S,
+    check: &C,
 ) -> Result<String, Stop>
-    ensures told { IfSome (given_both ledger_outcome (S.left config.old) (S.left input.old)) (λ given. Answers string_bytes stop_told result given) }
+    ensures told { IfSome (given_both (ledger_outcome C.verdict) (S.left config.old) (S.left input.old)) (λ given. Answers string_bytes stop_told result given) }
     ensures config_ended { OnOk result (ReadToEnd (S.left config.old) (S.left config.new)) }
     ensures input_ended { OnOk result (ReadToEnd (S.left input.old) (S.left input.new)) }
     ensures failed { result ≡ Err Stop.Outside →
@@ -197,6 +232,6 @@ pub(crate) fn text_of_ledger<S: Source>(
     ensures input_later { S.faults input.old ≤ S.faults input.new }
 {
     let ledger = begin_from(alloc, config)?;
-    let text = finish_with(alloc, ledger, input)?;
+    let text = finish_with(alloc, ledger, input, check)?;
     Ok(text)
 }

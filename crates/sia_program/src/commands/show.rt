@@ -4,14 +4,16 @@ ghost use Rattle.sia_edge.specs.Edge.{Rose};
 ghost use Rattle.sia_encoding.specs.Answer.{Answers};
 ghost use Rattle.sia_encoding.specs.Reading.{fault_told};
 ghost use Rattle.sia_program.specs.Answer.{ReadToEnd};
-ghost use Rattle.sia_program.specs.Commands.Show.{input_fault as input_fault_of, kind_shown as kind_shown_of, or_input_refused, show_form as show_form_of};
+ghost use Rattle.sia_program.specs.Commands.Show.{kind_shown as kind_shown_of, show_form as show_form_of};
 ghost use Rattle.sia_program.specs.Commands.Show.{show_block_outcome, show_transaction_outcome, whole_record};
-ghost use Rattle.sia_program.specs.Told.{refusal_told, stop_told};
+ghost use Rattle.sia_program.specs.declared.stop.Refusal.TheVariants as refusal;
+ghost use Rattle.sia_program.specs.Told.{or_refused_at, refusal_told, stop_told};
 
 use crate::fields::{block_lines, transaction_lines};
 use crate::form::{FilePlaces, Form};
 use crate::input::read_within;
-use crate::stop::{Fault, Refusal, Stop};
+use crate::places::input_fault;
+use crate::stop::{Fault, Stop};
 use sia_edge::Source;
 use sia_encoding::limits::BLOCK_BYTES;
 use sia_encoding::{Blob, Cursor, DecodeFault, Item};
@@ -53,21 +55,6 @@ pub(crate) fn show_form(words: &[Blob]) -> Option<Form>
     }
 }
 
-/// How a fault of the input's bytes is told: by its place.
-fn input_fault(fault: DecodeFault) -> Fault
-    ensures { result ≡ input_fault_of fault }
-{
-    match fault {
-        DecodeFault::Short { at }
-        | DecodeFault::BadBool { at }
-        | DecodeFault::BadKind { at }
-        | DecodeFault::BadCurrency { at }
-        | DecodeFault::TooLong { at }
-        | DecodeFault::Rest { at } => Fault::Refused(Refusal::Input { at }),
-        DecodeFault::Memory => Fault::Memory,
-    }
-}
-
 /// The one record that the bytes are, or the first fault of them; a rest behind it is one.
 #[tactic(auto, unfolding(crate::specs::Commands::Show::whole_record))]
 fn whole<T: Item>(alloc: Global, bytes: &[u8]) -> Result<T, DecodeFault>
@@ -81,7 +68,7 @@ fn whole<T: Item>(alloc: Global, bytes: &[u8]) -> Result<T, DecodeFault>
 
 /// The same; bytes that are no such record are refused at the place of their first fault.
 fn read_record<T: Item>(alloc: Global, bytes: &[u8]) -> Result<T, Fault>
-    ensures { Answers (λ value. value) refusal_told result (or_input_refused (whole_record T.codec bytes.now)) }
+    ensures { Answers (λ value. value) refusal_told result (or_refused_at refusal.Input (whole_record T.codec bytes.now)) }
 {
     match whole(alloc, bytes) {
         Ok(value) => Ok(value),

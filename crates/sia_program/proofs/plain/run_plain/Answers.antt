@@ -6,4 +6,4 @@ pub returns-in-Err-clause-answered : goal.returns-in-Err-clause-answered
 returns-in-Err-clause-answered g c form named =
     let read = c.in-Some.ensures in
     let same : c.in-Some.form ≡ form = cc in
-    rw (← same) (answered_stopped c.in-Some.form c.in-Err.stop _ _ _ c.tell.ensures c.in-Err.ensures.quiet (λ outside. c.in-Err.ensures.failed (ap Err outside)) c.in-Err.ensures.told)
+    rw (← same) (answered_stopped g.C.SigCheck.verdict c.in-Some.form c.in-Err.stop _ _ _ c.tell.ensures c.in-Err.ensures.quiet (λ outside. c.in-Err.ensures.failed (ap Err outside)) c.in-Err.ensures.told)
