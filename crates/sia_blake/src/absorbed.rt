@@ -13,9 +13,22 @@ pub(crate) enum Absorbed {
         before: Snapshot<Absorbed>,
         byte: Snapshot<u8>,
     },
+    /// The bytes that another hasher was given.
+    Same {
+        other: Snapshot<Absorbed>,
+    },
 }
 
 impl Absorbed {
+    /// The same bytes.
+    pub(crate) fn copy(&self) -> Absorbed
+        ensures { absorbed_bytes result ≡ absorbed_bytes self.now }
+    {
+        Absorbed::Same {
+            other: Snapshot::of(self),
+        }
+    }
+
     /// These bytes and one more.
     fn and(&self, byte: &u8) -> Absorbed
         ensures { absorbed_bytes result ≡ absorbed_bytes self.now ++ byte.now ∷ [] }

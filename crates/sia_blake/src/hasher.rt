@@ -42,6 +42,16 @@ impl Hasher {
         }
     }
 
+    /// Another hasher that was given the same bytes, for messages with one front part.
+    pub fn copy(&self) -> Hasher
+        ensures { result ≡ self.now }
+    {
+        Hasher {
+            state: self.state,
+            absorbed: self.absorbed.copy(),
+        }
+    }
+
     /// Takes the next bytes of the message, of which fewer than 2^64 come in all.
     pub fn update(&mut self, bytes: &[u8])
         requires { length self.old + length bytes.now < 2 ^ 64 }

@@ -9,7 +9,7 @@ use crate::edges::{compress_last, digest_bytes};
 
 /// The hash after the blocks that are done, and the bytes that came after them. A full buffer is kept until more
 /// bytes come, since the last block is compressed in another way.
-#[derive(Drop)]
+#[derive(Clone, Copy, Drop)]
 pub(crate) struct HashState {
     h: [u64; 8],
     buffer: [u8; 128],

@@ -1,7 +1,7 @@
 //! The outside: where bytes come from, where they go, the links that others come in by, and the disks that keep them.
 //!
 //! The model of a disk is that of POSIX's pwrite, ftruncate and fsync on one file, read so that a crash may leave as much
-//! as any file system leaves (specs/Disk.antt). The rest is POSIX's read, write, pread, fstat, flock, posix_fadvise, accept and
+//! as any file system leaves (specs/Disk.antt). The rest is POSIX's read, write, pread, lseek, flock, posix_fadvise, accept and
 //! shutdown, as std and libc have them.
 //!
 //! ```
@@ -40,9 +40,9 @@
 //! What no clause can say is tested over real files: what the system does at [`FileDisk::open`] (it locks the file without
 //! waiting, syncs it and its folder, and drops the pages that the system keeps of it, on no descriptor of a standard stream),
 //! and that the file of a [`FileSink`] keeps what it held until the first write or [`FileSink::finish`], which syncs it; and over
-//! real connections: a [`TcpLink`] sends what is written at once, an accept passes over a connection that is gone already, and a
-//! link that is given back to a [`TcpDoor`] is closed so that its last bytes arrive. There are no time-outs: a silent peer is
-//! waited for.
+//! real connections: a link that is given back to a [`TcpDoor`] is closed so that its last bytes arrive. Neither a clause nor a
+//! test says that a [`TcpLink`] sends what is written at once, and that an accept passes over a connection that is gone already.
+//! There are no time-outs: a silent peer is waited for.
 //! A crate above carries what its runs of disk calls leave by the lemmas of proofs/Runs.antt.
 //!
 //! # Stands on

@@ -6,10 +6,11 @@ ghost use Rattle.sia_edge.specs.OpenedFile.{ReadsAt, PutsAt};
 use crate::attempts::{read_some, write_some};
 use crate::{Did, Got, Put};
 use std::fs::File;
-use std::io::{self, Read, Write};
+use std::io::{self, Read, Seek, SeekFrom, Write};
 use std::os::unix::fs::FileExt;
 
-/// An open file, by the calls that a system has for it: those of POSIX's `pread`, `pwrite`, `ftruncate`, `fsync` and `fstat`.
+/// An open file, by the calls that a system has for it: those of POSIX's `pread`, `pwrite`, `ftruncate`, `fdatasync` and
+/// `lseek`.
 /// Where its bytes are told, contracts see what each call makes of them, and what it held as it was last synced.
 pub trait OpenedFile {
     /// The bytes that it holds, where they are told.
@@ -81,8 +82,11 @@ impl OpenedFile for File {
 
     ghost synced = { λ file. None };
 
+    // The end is sought rather than fstat called: since Linux 6.13 a fstat makes the next write give the file a new time of
+    // its own, which costs a write of the inode. No call reads or writes at the place that is left.
     fn size(&self) -> Option<u64> {
-        Some(self.metadata().ok()?.len())
+        let mut file = self;
+        file.seek(SeekFrom::End(0)).ok()
     }
 
     fn read_at(&self, at: u64, buffer: &mut [u8]) -> Got {
