@@ -13,7 +13,8 @@
 //!
 //! - [`digest`] is the BLAKE2b-256 digest of its bytes, however many they are.
 //! - A [`Hasher`] is seen as the bytes that it was given: [`Hasher::update`] puts more behind them, fewer than 2^64 in all, and
-//!   [`Hasher::finish`] gives the digest of all. So how a message is cut into pieces changes nothing.
+//!   [`Hasher::finish`] gives the digest of all. So how a message is cut into pieces changes nothing. [`Hasher::copy`] is one
+//!   that was given the same.
 //! - [`digest_four`] gives the digests of four messages of 65 bytes each, a first byte that all have and 64 bytes of their own:
 //!   what a leaf or a node of a Merkle tree hashes.
 //! - Neither [`digest`] nor [`digest_four`] nor a [`Hasher`] takes memory, and none of their calls can be refused.
