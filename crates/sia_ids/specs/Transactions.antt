@@ -26,6 +26,10 @@ fund_id tx index = blake2b_256 (made_text (codes "siafund output") tx index)
 unfoldable pub contract_id : Transaction → ℕ → List ℕ
 contract_id tx index = blake2b_256 (made_text (codes "file contract") tx index)
 
+-- what is named by an index behind a text
+unfoldable pub id_behind : List ℕ → ℕ → List ℕ
+id_behind text index = blake2b_256 (text ++ spelled_u64 index)
+
 -- the text of the claim of the siafund output with this identifier
 unfoldable pub claim_text : List ℕ → List ℕ
 claim_text fund = label (codes "claim output") ++ fund

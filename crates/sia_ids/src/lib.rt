@@ -16,7 +16,8 @@
 //! - [`block_id`] is the digest of the block's header: parent, nonce, timestamp, and the Merkle root over its payouts and
 //!   then its transactions. [`payout_id`] is that of the block's identifier and the index of the payout.
 //! - [`tx_id`] is the digest of a transaction without its signatures; [`coin_id`], [`fund_id`] and [`contract_id`] that of
-//!   a label, the same, and an index.
+//!   a label, the same, and an index. [`coin_ids`], [`fund_ids`] and [`contract_ids`] give them for every index, and spell and
+//!   hash the transaction once.
 //! - [`claim_id`] is the digest of a label and the siafund output's identifier; [`settle_id`] that of a label, the
 //!   contract's identifier, whether its outputs are the valid ones, and the index.
 //! - [`genesis_id`] is the digest of a label and the list of the siafund outputs as the genesis makes them, with the claim
@@ -35,9 +36,11 @@
 mod block;
 mod conditions;
 mod genesis;
+mod made;
 mod transaction;
 
 pub use block::{block_id, payout_id};
 pub use conditions::{segment_index, unlock_hash};
 pub use genesis::{genesis_fund_id, genesis_id};
+pub use made::{MadeIds, coin_ids, contract_ids, fund_ids};
 pub use transaction::{claim_id, coin_id, contract_id, fund_id, settle_id, tx_id};

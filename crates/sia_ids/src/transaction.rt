@@ -11,13 +11,13 @@ use sia_types::Transaction;
 use std::alloc::{AllocError, Global};
 
 /// The label of a siacoin output, filled with zero bytes to 16.
-const SIACOIN_OUTPUT: [u8; 16] = *b"siacoin output\0\0";
+pub(crate) const SIACOIN_OUTPUT: [u8; 16] = *b"siacoin output\0\0";
 
 /// The label of a siafund output.
-const SIAFUND_OUTPUT: [u8; 16] = *b"siafund output\0\0";
+pub(crate) const SIAFUND_OUTPUT: [u8; 16] = *b"siafund output\0\0";
 
 /// The label of a file contract.
-const FILE_CONTRACT: [u8; 16] = *b"file contract\0\0\0";
+pub(crate) const FILE_CONTRACT: [u8; 16] = *b"file contract\0\0\0";
 
 /// The label of the claim of a siafund output.
 const CLAIM_OUTPUT: [u8; 16] = *b"claim output\0\0\0\0";
