@@ -1,25 +1,19 @@
 -- What one fact more does to the sums over what stands.
-use Rattle.std.proofs.Common.{◌≡◌, ℕ, ◌+◌, ◌-◌, ◌*◌, ◌/◌, ◌<◌, ◌≤◌, length, drop, get_or, Bool, true, false, List, [], ◌∷◌, ◌++◌, refl, ap, sym, ◌∙◌, arith, lit<}
-use Rattle.std.specs.Prelude.{◌||◌, nat_eq, Option, Some, None, if◌then◌else◌}
+use Rattle.std.proofs.Common.{◌≡◌, ℕ, ◌+◌, ◌<◌, length, drop, get_or, Bool, true, false, List, [], ◌∷◌, ◌++◌, refl, ap, sym, ◌∙◌, arith}
+use Rattle.std.specs.Prelude.{◌||◌, Option, Some, None, if◌then◌else◌}
 use Rattle.std.specs.Option.{option_or}
 use Rattle.std.specs.List.{sum_by}
-use Rattle.std.specs.Cmp.Lexicographic.{pointwise, same_text}
+use Rattle.std.specs.Cmp.Lexicographic.{same_text}
 use Rattle.std.proofs.lemmas.Cmp.{nat_list_eq_equiv}
 use Rattle.std.proofs.lemmas.List.Folds.{list_any-append}
 use Rattle.std.proofs.lemmas.List.{drop_more}
-use Rattle.std.proofs.lemmas.List.Sums.{sum_by-append, sum_by-cons}
-use Rattle.std.proofs.Math.Nat.{add-mul-div_right}
-use Rattle.sia_ledger.specs.declared.fact.Deed.TheVariants as deed
+use Rattle.std.proofs.lemmas.List.Sums.{sum_by-cons}
 use Rattle.sia_ledger.specs.Facts.{fact, is_known, last_deed, standing}
 use Rattle.sia_ledger.specs.Holdings.{held}
+use Rattle.sia_ledger.specs.Registered.{worth}
 use Rattle.sia_ledger.specs.declared.fact.Deed.{Deed}
 use Rattle.sia_ledger.specs.declared.fact.Fact.{Fact}
 use Rattle.std.specs.Str.{bytes_eq}
-
--- what the last deed on an identifier counts
-abbrev pub worth : (Deed → ℕ) → Option Deed → ℕ
-worth value None = 0
-worth value (Some what) = value what
 
 pub or_false : (b : Bool) → (b || false) ≡ b
 or_false true = refl

@@ -1,13 +1,11 @@
--- Looking identifiers up in two lists of facts, and in a list that is one longer.
-use Rattle.std.proofs.Common.{◌≡◌, ℕ, ◌+◌, ◌<◌, Bool, true, false, List, [], ◌∷◌, ◌++◌, length, take, get_or, refl, ap, sym, ◌∙◌}
+-- Looking identifiers up in two lists of facts.
+use Rattle.std.proofs.Common.{◌≡◌, ℕ, List, [], ◌∷◌, ◌++◌, refl, ap, sym, ◌∙◌}
 use Rattle.std.specs.Prelude.{Option, Some, None, if◌then◌else◌}
 use Rattle.std.specs.Option.{option_or}
 use Rattle.std.specs.Str.{bytes_eq}
-use Rattle.std.proofs.lemmas.List.{take_more}
 use Rattle.sia_ledger.specs.declared.fact.Fact.{Fact}
 use Rattle.sia_ledger.specs.declared.fact.Deed.{Deed}
 use Rattle.sia_ledger.specs.Facts.{last_deed}
-use Rattle.sia_ledger.proofs.Held.{last-push}
 
 or_assoc : {X : Type 0} (a b c : Option X) → option_or (option_or a b) c ≡ option_or a (option_or b c)
 or_assoc None b c = refl
@@ -28,13 +26,3 @@ last-append-some xs ys id what e = sym (last-append xs ys id ∙ ap (λ found. o
 -- where it says nothing, the earlier one does
 pub last-append-none : (xs ys : List Fact) (id : List ℕ) → None ≡ last_deed ys id → last_deed xs id ≡ last_deed (xs ++ ys) id
 last-append-none xs ys id e = sym (last-append xs ys id ∙ ap (λ found. option_or found (last_deed xs id)) (sym e))
-
-last-more : (facts : List Fact) (i : ℕ) (id : List ℕ) (x : Fact) → i < length facts → x ≡ get_or facts i x → last_deed (take (i + 1) facts) id ≡ (if bytes_eq x.id id then Some x.deed else last_deed (take i facts) id)
-last-more facts i id x within is = ap (λ front. last_deed front id) (take_more facts i x within) ∙ ap (λ y. last_deed (take i facts ++ y ∷ []) id) (sym is) ∙ last-push (take i facts) x id
-
--- one fact more, about the identifier or about another
-pub last-same : (facts : List Fact) (i : ℕ) (id : List ℕ) (x : Fact) → i < length facts → x ≡ get_or facts i x → true ≡ bytes_eq x.id id → Some x.deed ≡ last_deed (take (i + 1) facts) id
-last-same facts i id x within is same = sym (last-more facts i id x within is ∙ ap (λ b. if b then Some x.deed else last_deed (take i facts) id) (sym same))
-
-pub last-other : (facts : List Fact) (i : ℕ) (id : List ℕ) (x : Fact) → i < length facts → x ≡ get_or facts i x → false ≡ bytes_eq x.id id → last_deed (take i facts) id ≡ last_deed (take (i + 1) facts) id
-last-other facts i id x within is other = sym (last-more facts i id x within is ∙ ap (λ b. if b then Some x.deed else last_deed (take i facts) id) (sym other))

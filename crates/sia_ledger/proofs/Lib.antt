@@ -2,6 +2,7 @@ pub mod Always
 pub mod Beginning
 pub mod BlockTexts
 pub mod Bounds
+pub mod Claimed
 pub mod Claims
 pub mod Conserved
 pub mod Consumed
@@ -11,6 +12,7 @@ pub mod Endings
 pub mod Grown
 pub mod Halves
 pub mod Held
+pub mod Issues
 pub mod Keeps
 pub mod LastDeeds
 pub mod LastId
@@ -22,7 +24,9 @@ pub mod NewTexts
 pub mod Ordered
 pub mod OtherFaults
 pub mod Outcomes
+pub mod Registering
 pub mod Right
+pub mod RunningSums
 pub mod Shares
 pub mod Stages
 pub mod Standing

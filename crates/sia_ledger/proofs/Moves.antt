@@ -1,12 +1,10 @@
 -- What one fact more does to all that a chain holds.
-use Rattle.std.proofs.Common.{◌≡◌, ℕ, zero, ◌+◌, ◌-◌, ◌*◌, ◌/◌, ◌<◌, ◌≤◌, Bool, true, false, List, [], ◌∷◌, ◌++◌, refl, ap, sym, ◌∙◌, arith, subst}
-use Rattle.std.specs.Prelude.{◌||◌, nat_eq, Option, Some, None, if◌then◌else◌}
+use Rattle.std.proofs.Common.{◌≡◌, ℕ, ◌+◌, ◌*◌, ◌/◌, ◌≤◌, Bool, true, false, List, [], ◌∷◌, ◌++◌, refl, ap, sym, ◌∙◌, arith}
+use Rattle.std.specs.Prelude.{Option, Some, None, if◌then◌else◌}
 use Rattle.std.specs.Option.{option_or}
-use Rattle.std.specs.Cmp.Lexicographic.{same_text}
 use Rattle.sia_ledger.specs.declared.fact.Deed.TheVariants as deed
-use Rattle.sia_ledger.specs.Effects.{revised, settled}
 use Rattle.std.proofs.Math.Nat.{mul-le-mul_right}
-use Rattle.sia_ledger.specs.Facts.{fact, spent, is_known, last_deed, terms_in, terms_at, tax_of, taxes, funds_of, share, claim_at}
+use Rattle.sia_ledger.specs.Facts.{fact, is_known, last_deed, terms_in, terms_at, tax_of, taxes, funds_of, share, claim_at}
 use Rattle.sia_ledger.specs.Holdings.{coins_of, held_by, held}
 use Rattle.sia_ledger.specs.Paying.{total}
 use Rattle.sia_ledger.specs.declared.fact.Deed.{Deed}
@@ -16,7 +14,8 @@ use Rattle.sia_types.specs.declared.coins.CoinOutput.{CoinOutput}
 use Rattle.sia_types.specs.declared.funds.FundOutput.{FundOutput}
 use Rattle.sia_types.specs.declared.terms.Terms.{Terms}
 use Rattle.std.specs.Str.{bytes_eq}
-use Rattle.sia_ledger.proofs.Held.{worth, held-push, known-some, unknown, last-push, same-sym, same-self}
+use Rattle.sia_ledger.specs.Registered.{worth}
+use Rattle.sia_ledger.proofs.Held.{held-push, known-some, unknown}
 use Rattle.sia_ledger.proofs.Claims.{unclaimed-push, unclaimed-more}
 
 -- what is held changes by a gain and a loss, and the live siafunds by what is brought and taken

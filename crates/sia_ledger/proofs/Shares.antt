@@ -1,17 +1,14 @@
 -- Claims in shares.
-use Rattle.std.proofs.Common.{◌≡◌, ℕ, zero, suc, ◌+◌, ◌-◌, ◌*◌, ◌/◌, ◌^◌, ◌<◌, ◌≤◌, Bool, true, false, List, [], ◌∷◌, ◌++◌, length, refl, ap, sym, ◌∙◌, arith}
-use Rattle.std.specs.Prelude.{min, ◌||◌, if◌then◌else◌}
-use Rattle.std.specs.List.{sum_by}
+use Rattle.std.proofs.Common.{◌≡◌, ℕ, suc, ◌+◌, ◌*◌, ◌/◌, ◌<◌, ◌≤◌, Bool, true, false, List, [], ◌∷◌, ◌++◌, refl, ap, sym, ◌∙◌, arith}
+use Rattle.std.specs.Prelude.{◌||◌, if◌then◌else◌}
 use Rattle.std.specs.Str.{bytes_eq}
-use Rattle.std.proofs.lemmas.List.Sums.{sum_by-append, sum_by-cons}
+use Rattle.std.proofs.lemmas.List.Sums.{sum_by-cons}
 use Rattle.std.proofs.Math.Nat.{mul_assoc, mul-div_cancel}
 use Rattle.sia_ledger.specs.declared.fact.Fact.{Fact}
 use Rattle.sia_ledger.specs.declared.fact.Deed.{Deed}
 use Rattle.sia_ledger.specs.declared.fact.Deed.TheVariants as deed
-use Rattle.sia_rules.specs.Amounts.{shares, tax, capped}
+use Rattle.sia_rules.specs.Amounts.{tax}
 use Rattle.sia_ledger.specs.Claiming.{shares_in, all_shares}
-use Rattle.sia_ledger.specs.Holdings.{unclaimed}
-use Rattle.sia_ledger.proofs.Claims.{unclaimed-nil}
 use Rattle.sia_ledger.specs.Facts.{claim_at, funds_of, is_known, share, tax_of, taxes}
 
 or_assoc : (a b c : Bool) → (a || (b || c)) ≡ ((a || b) || c)
@@ -22,10 +19,6 @@ or_assoc false b c = refl
 pub known_append : (xs ys : List Fact) (id : List ℕ) → is_known (xs ++ ys) id ≡ (is_known xs id || is_known ys id)
 known_append [] ys id = refl
 known_append (x ∷ xs) ys id = ap (λ known. bytes_eq x.id id || known) (known_append xs ys id) ∙ or_assoc (bytes_eq x.id id) (is_known xs id) (is_known ys id)
-
--- none of either list is
-pub known_neither : (xs ys : List Fact) (id : List ℕ) → false ≡ is_known xs id → false ≡ is_known ys id → is_known (xs ++ ys) id ≡ false
-known_neither xs ys id e f = known_append xs ys id ∙ ap (λ b. b || is_known ys id) (sym e) ∙ sym f
 
 -- a claim is counted behind the last fact about it
 pub claim_later : (x : Fact) (rest : List Fact) (id : List ℕ) → is_known rest id ≡ true → claim_at (x ∷ rest) id ≡ claim_at rest id
@@ -44,7 +37,7 @@ one_tax deed.Spent = refl
 one_tax (deed.Revised terms) = refl
 one_tax (deed.Settled valid) = refl
 
-taxes_in_shares : (facts : List Fact) → taxes facts ≡ all_shares facts * 10000
+pub taxes_in_shares : (facts : List Fact) → taxes facts ≡ all_shares facts * 10000
 unfolding taxes
 taxes_in_shares [] = refl
 taxes_in_shares (x ∷ facts) =
@@ -59,49 +52,7 @@ share_exact what since =
     let positive : 0 < 10000 = omega arith in
     ap (λ t. n * t / 10000) (taxes_in_shares since) ∙ ap (λ t. t / 10000) (sym (mul_assoc n (all_shares since) 10000)) ∙ mul-div_cancel (n * all_shares since) positive
 
-at_least : (v n : ℕ) → n ≤ suc v * n
+pub at_least : (v n : ℕ) → n ≤ suc v * n
 at_least v n =
     let e : suc v * n ≡ v * n + n = omega arith in
     omega (arith, e)
-
--- a product that fits, though a factor was cut
-pub cut_product : (v n : ℕ) → v * n < 2 ^ 128 → min (v * capped n) (2 ^ 128 - 1) ≡ v * n
-cut_product zero n fits =
-    let none : zero * capped n ≡ 0 = omega arith in
-    let nothing : zero * n ≡ 0 = omega arith in
-    omega (arith, none, nothing)
-cut_product (suc v) n fits =
-    let low = at_least v n in
-    let same : capped n ≡ n = omega (arith, low, fits) in
-    let product : suc v * capped n ≡ suc v * n = ap (λ m. suc v * m) same in
-    omega (arith, product, fits)
-
--- the shares of two lists, each cut and then their sum cut
-pub cut_sum : (xs ys : List Fact) → min (capped (all_shares xs) + capped (all_shares ys)) (2 ^ 128 - 1) ≡ capped (all_shares (xs ++ ys))
-cut_sum xs ys =
-    let both = sum_by-append (λ (f : Fact). shares_in f.deed) xs ys in
-    omega (arith, both)
-
-none_behind : (xs : List Fact) → xs ++ [] ≡ xs
-none_behind [] = refl
-none_behind (x ∷ xs) = ap (λ rest. x ∷ rest) (none_behind xs)
-
--- the claim of a fact that nothing behind it is about
-pub claim_counted : (x : Fact) (rest : List Fact) → is_known rest x.id ≡ false → share x.deed (rest ++ []) + unclaimed rest ≡ unclaimed (x ∷ rest)
-unfolding unclaimed
-claim_counted x rest e =
-    ap (λ since. share x.deed since + unclaimed rest) (none_behind rest) ∙ ap (λ k. (if k then 0 else share x.deed rest) + unclaimed rest) (sym e)
-
--- any other one claims nothing
-pub claim_uncounted : (x : Fact) (rest : List Fact) → is_known rest x.id ≡ true → 0 + unclaimed rest ≡ unclaimed (x ∷ rest)
-unfolding unclaimed
-claim_uncounted x rest e = ap (λ k. (if k then 0 else share x.deed rest) + unclaimed rest) (sym e)
-
--- a claim fits where all do
-pub claim_fits : (x : Fact) (rest : List Fact) → is_known rest x.id ≡ false → unclaimed (x ∷ rest) < 2 ^ 128 → share x.deed (rest ++ []) < 2 ^ 128
-claim_fits x rest e fits = omega (arith, fits, claim_counted x rest e)
-
--- no facts claim nothing
-pub unclaimed_nothing : (facts : List Fact) → length facts ≡ 0 → unclaimed facts ≡ 0
-unclaimed_nothing [] e = unclaimed-nil
-unclaimed_nothing (x ∷ facts) e = cc

@@ -17,3 +17,4 @@ pub mod Courses
 pub mod Texts
 pub mod Claiming
 pub mod Judging
+pub mod Registered

@@ -4,7 +4,7 @@ ghost use Rattle.sia_ledger.specs.Holdings.{last_id};
 ghost use Rattle.sia_ledger.specs.Judging.{state_kept};
 ghost use Rattle.sia_ledger.specs.State.{next};
 
-use crate::fact::Fact;
+use crate::register::Register;
 use sia_blake::Hash;
 use std::marker::Model;
 
@@ -12,7 +12,7 @@ use std::marker::Model;
 #[derive(Drop)]
 pub(crate) struct Base<'a> {
     ids: &'a [Hash],
-    facts: &'a [Fact],
+    register: &'a Register,
 }
 
 impl<'a> Model for Base<'a> {
@@ -21,15 +21,15 @@ impl<'a> Model for Base<'a> {
 
     ghost Value = { State };
 
-    ghost view = { λ b. record { ids = b.ids.now; facts = b.facts.now; twice = None } };
+    ghost view = { λ b. record { ids = b.ids.now; facts = b.register.now; twice = None } };
 }
 
 impl<'a> Base<'a> {
     /// What these identifiers and facts say.
-    pub(crate) fn new(ids: &'a [Hash], facts: &'a [Fact]) -> Base<'a>
-        ensures { result ≡ state_kept ids.now facts.now }
+    pub(crate) fn new(ids: &'a [Hash], register: &'a Register) -> Base<'a>
+        ensures { result ≡ state_kept ids.now register.now }
     {
-        Base { ids, facts }
+        Base { ids, register }
     }
 
     /// The identifiers of the genesis and of each block.
@@ -40,11 +40,11 @@ impl<'a> Base<'a> {
     }
 
     /// What the genesis and the blocks made and did.
-    pub(crate) fn facts(&self) -> &'a [Fact]
+    pub(crate) fn register(&self) -> &'a Register
         ensures facts { result.now ≡ self.now.facts }
         ensures new { self.now.twice ≡ None }
     {
-        self.facts
+        self.register
     }
 
     /// The height of the next block.

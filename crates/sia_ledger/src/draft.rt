@@ -6,10 +6,10 @@ ghost use Rattle.sia_ledger.specs.Known.{state_in};
 ghost use Rattle.sia_ledger.specs.State.{add, next};
 
 use crate::base::Base;
-use crate::claiming::claim_of;
 use crate::ending::ending_of;
 use crate::fact::{Deed, Fact};
-use crate::lookups::{is_among, is_making, last_of};
+use crate::lookups::is_making;
+use crate::register::Register;
 use sia_blake::Hash;
 use sia_encoding::List;
 use sia_types::{CoinOutput, FundOutput, Terms};
@@ -20,8 +20,8 @@ use std::marker::Model;
 #[derive(Drop)]
 pub(crate) struct Draft<'a> {
     ids: &'a [Hash],
-    kept: &'a [Fact],
-    fresh: List<Fact>,
+    kept: &'a Register,
+    fresh: Register,
     twice: Option<Hash>,
 }
 
@@ -41,8 +41,8 @@ impl<'a> Draft<'a> {
     {
         Draft {
             ids: base.ids(),
-            kept: base.facts(),
-            fresh: List::new(alloc),
+            kept: base.register(),
+            fresh: Register::new(alloc),
             twice: None,
         }
     }
@@ -52,7 +52,7 @@ impl<'a> Draft<'a> {
         ensures { result ≡ (self.entry.fresh, self.entry.twice) }
     {
         let Draft { fresh, twice, .. } = self;
-        (fresh, twice)
+        (fresh.into_facts(), twice)
     }
 
     /// The height of the next block.
@@ -73,16 +73,16 @@ impl<'a> Draft<'a> {
     pub(crate) fn knows(&self, id: &Hash) -> bool
         ensures { result ≡ is_known (state_in self.now).facts id.now }
     {
-        is_among(self.kept, id) || is_among(self.fresh.as_slice(), id)
+        self.kept.knows(id) || self.fresh.knows(id)
     }
 
     /// What last happened to an identifier.
     pub(crate) fn last(&self, id: &Hash) -> Option<&Deed>
         ensures { option_copied result ≡ last_deed (state_in self.now).facts id.now }
     {
-        match last_of(self.fresh.as_slice(), id) {
+        match self.fresh.last(id) {
             Some(deed) => Some(deed),
-            None => last_of(self.kept, id),
+            None => self.kept.last(id),
         }
     }
 
@@ -128,14 +128,17 @@ impl<'a> Draft<'a> {
         requires { claim_at (state_in self.now).facts id.now < 2 ^ 128 }
         ensures { result ≡ claim_at (state_in self.now).facts id.now }
     {
-        claim_of(self.kept, self.fresh.as_slice(), id)
+        if self.fresh.knows(id) {
+            return self.fresh.claim(id, 0);
+        }
+        self.kept.claim(id, self.fresh.shares())
     }
 
     /// The running contracts that end at a height, by ascending identifiers.
     pub(crate) fn ending(&self, alloc: Global, height: u64) -> Result<List<Hash>, AllocError>
         ensures { IfOk result (λ ids. ids ≡ ending height (state_in self.now).facts) }
     {
-        ending_of(alloc, height, self.kept, self.fresh.as_slice())
+        ending_of(alloc, height, self.kept.as_slice(), self.fresh.as_slice())
     }
 
     /// One fact more, unless it makes what was made before.

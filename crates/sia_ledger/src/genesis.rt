@@ -18,6 +18,7 @@ use crate::draft::Draft;
 use crate::fact::{Deed, Fact};
 use crate::fault::GenesisFault;
 use crate::params::Params;
+use crate::register::Register;
 use sia_blake::Hash;
 use sia_encoding::List;
 use sia_ids::genesis_fund_id;
@@ -80,7 +81,8 @@ pub(crate) fn make_genesis(
 {
     let own = *id;
     let ids = [own];
-    let base = Base::new(&ids, &[]);
+    let none = Register::new(alloc);
+    let base = Base::new(&ids, &none);
     let mut draft = Draft::begin(alloc, &base);
     add_genesis(&mut draft, id, funds)?;
     let (made, twice) = draft.finish();

@@ -1,33 +1,15 @@
 //! What a chain holds: sums over the facts that no later fact is about.
-ghost use Rattle.std.specs.Prelude.{◌≡◌, ◌+◌, ◌<◌, ◌^◌, ◌%◌, ◌∷◌, if◌then◌else◌};
-ghost use Rattle.sia_ledger.specs.Facts.{is_known, taxes, tax_of};
-ghost use Rattle.sia_ledger.specs.Holdings.{coins_of, escrow, held_by, immature, outputs, resting_at, unclaimed};
+ghost use Rattle.std.specs.Prelude.{◌≡◌, ◌+◌, ◌<◌, ◌^◌, ◌∷◌, if◌then◌else◌};
+ghost use Rattle.sia_rules.specs.Amounts.{issued};
+ghost use Rattle.sia_ledger.specs.Facts.{is_known};
+ghost use Rattle.sia_ledger.specs.Holdings.{coins_of, held_by, immature, resting_at};
 
-use crate::claiming::share_of;
 use crate::fact::{Deed, Fact};
 use crate::lookups::is_among;
-use sia_rules::tax;
+use sia_rules::{COIN, tax};
 
-/// All live siacoin outputs.
-pub(crate) fn sum_of_outputs(facts: &[Fact]) -> u128
-    requires { outputs facts.now < 2 ^ 128 }
-    ensures { result ≡ outputs facts.now }
-{
-    let mut sum: u128 = 0;
-    let mut rest = facts;
-    while let Some((first, after)) = rest.split_first() {
-        sum += coins_standing(first, after);
-        rest = after;
-    }
-    sum
-}
-
-// What a fact counts of the live siacoin outputs, where others stand behind it.
-fn coins_standing(fact: &Fact, after: &[Fact]) -> u128
-    ensures { result + outputs after.now ≡ outputs (fact.now ∷ after.now) }
-{
-    counted(coins(&fact.deed), fact, after)
-}
+/// The height up to which each block creates a siacoin less than the one before it.
+const FALLING: u64 = 270_000;
 
 // A value, where none of the facts behind is about the same identifier; else 0.
 fn counted(value: u128, fact: &Fact, after: &[Fact]) -> u128
@@ -39,8 +21,8 @@ fn counted(value: u128, fact: &Fact, after: &[Fact]) -> u128
     value
 }
 
-// The value of a siacoin output, and 0 of anything else.
-fn coins(deed: &Deed) -> u128
+/// The value of a siacoin output, and 0 of anything else.
+pub(crate) fn coins(deed: &Deed) -> u128
     ensures { result ≡ coins_of deed.now }
 {
     match deed {
@@ -80,29 +62,8 @@ fn resting(height: u64, deed: &Deed) -> u128
     }
 }
 
-/// What running contracts hold.
-pub(crate) fn sum_of_escrow(facts: &[Fact]) -> u128
-    requires { escrow facts.now < 2 ^ 128 }
-    ensures { result ≡ escrow facts.now }
-{
-    let mut sum: u128 = 0;
-    let mut rest = facts;
-    while let Some((first, after)) = rest.split_first() {
-        sum += escrow_standing(first, after);
-        rest = after;
-    }
-    sum
-}
-
-// What a fact counts of it, where others stand behind it.
-fn escrow_standing(fact: &Fact, after: &[Fact]) -> u128
-    ensures { result + escrow after.now ≡ escrow (fact.now ∷ after.now) }
-{
-    counted(held(&fact.deed), fact, after)
-}
-
-// What a running contract holds, and 0 of anything else.
-fn held(deed: &Deed) -> u128
+/// What a running contract holds, and 0 of anything else.
+pub(crate) fn held(deed: &Deed) -> u128
     ensures { result ≡ held_by deed.now }
 {
     match deed {
@@ -112,49 +73,12 @@ fn held(deed: &Deed) -> u128
     }
 }
 
-/// The claims of the live siafund outputs.
-pub(crate) fn sum_of_claims(facts: &[Fact]) -> u128
-    requires { unclaimed facts.now < 2 ^ 128 }
-    ensures { result ≡ unclaimed facts.now }
+/// What all blocks up to a height have created, in hastings.
+pub(crate) fn issued_at(height: u64) -> u128
+    requires { height < 2 ^ 32 }
+    ensures { result ≡ issued height }
 {
-    let mut sum: u128 = 0;
-    let mut rest = facts;
-    while let Some((first, after)) = rest.split_first() {
-        sum += claim_standing(first, after);
-        rest = after;
-    }
-    sum
-}
-
-// What a fact claims, where others stand behind it.
-fn claim_standing(fact: &Fact, after: &[Fact]) -> u128
-    requires { unclaimed (fact.now ∷ after.now) < 2 ^ 128 }
-    ensures { result + unclaimed after.now ≡ unclaimed (fact.now ∷ after.now) }
-{
-    if is_among(after, &fact.id) {
-        return 0;
-    }
-    share_of(&fact.deed, after, &[])
-}
-
-/// The taxes of the formations, modulo 2^128.
-#[tactic(auto, unfolding(crate::specs::Facts::taxes))]
-pub(crate) fn sum_of_taxes(facts: &[Fact]) -> u128
-    ensures { result ≡ taxes facts.now % 2 ^ 128 }
-{
-    let mut sum: u128 = 0;
-    for fact in facts {
-        sum = sum.wrapping_add(tax_by(&fact.deed));
-    }
-    sum
-}
-
-// The tax that a formation brings, and 0 of anything else.
-fn tax_by(deed: &Deed) -> u128
-    ensures { result ≡ tax_of deed.now }
-{
-    match deed {
-        Deed::Formed(terms) => tax(terms.payout),
-        _ => 0,
-    }
+    let early = u128::from(height.min(FALLING));
+    let late = u128::from(height) - early;
+    early * (599_999 - early) * (COIN / 2) + late * 30_000 * COIN
 }

@@ -19,17 +19,15 @@ ghost use Rattle.sia_ledger.specs.Refusal.{refusal, set_refusal};
 ghost use Rattle.sia_ledger.specs.State.{next};
 
 use crate::base::Base;
-use crate::fact::Fact;
 use crate::fault::{GenesisFault, RevertFault};
 use crate::genesis::{check_params, make_genesis};
-use crate::holdings::{
-    sum_of_claims, sum_of_escrow, sum_of_immature, sum_of_outputs, sum_of_taxes,
-};
+use crate::holdings::{issued_at, sum_of_immature};
 use crate::judging::{Judged, judge, judge_alone};
 use crate::owned::owned_by;
 use crate::params::Params;
 use crate::parts::{drop_block, push_block};
 use crate::present::{status_among, terms_among};
+use crate::register::Register;
 use crate::sums::{Status, Sums};
 use crate::typed::Typed;
 use sia_blake::Hash;
@@ -53,8 +51,8 @@ pub struct Ledger {
     blocks: List<Block>,
     /// The identifiers of the genesis and of each block, by height.
     ids: List<Hash>,
-    /// What the genesis and the blocks made and did, in order.
-    facts: List<Fact>,
+    /// What the genesis and the blocks made and did.
+    register: Register,
     /// How many facts stood before each block.
     marks: List<u64>,
 }
@@ -68,7 +66,7 @@ impl Model for Ledger {
 
     ghost view = { λ l. record { maturity = l.maturity; funds = l.funds; blocks = l.blocks } };
 
-    ghost invariant = { λ l. IsKept (record { maturity = l.maturity; funds = l.funds; blocks = l.blocks }) l.ids l.facts l.marks };
+    ghost invariant = { λ l. IsKept (record { maturity = l.maturity; funds = l.funds; blocks = l.blocks }) l.ids l.register l.marks };
 }
 
 impl Ledger {
@@ -90,12 +88,14 @@ impl Ledger {
             return Err(GenesisFault::Memory);
         }
         let ids = List::from_slice(alloc, &[id])?;
+        let mut register = Register::new(alloc);
+        register.append(begun.made)?;
         Ok(Ledger {
             maturity,
             funds,
             blocks: List::new(alloc),
             ids,
-            facts: begun.made,
+            register,
             marks: List::new(alloc),
         })
     }
@@ -143,7 +143,7 @@ impl Ledger {
         push_block(
             &mut self.blocks,
             &mut self.ids,
-            &mut self.facts,
+            &mut self.register,
             &mut self.marks,
             copy,
             judged,
@@ -164,7 +164,7 @@ impl Ledger {
         match self.blocks.pop() {
             None => Err(RevertFault::NoBlock),
             Some(_) => {
-                drop_block(&mut self.ids, &mut self.facts, &mut self.marks);
+                drop_block(&mut self.ids, &mut self.register, &mut self.marks);
                 Ok(())
             }
         }
@@ -192,18 +192,17 @@ impl Ledger {
     {
         let height = self.height();
         let base = self.base();
-        let facts = base.facts();
-        let outputs = sum_of_outputs(facts);
-        let escrow = sum_of_escrow(facts);
-        let unclaimed = sum_of_claims(facts);
+        let register = base.register();
+        let (outputs, escrow) = (register.outputs(), register.escrow());
+        let issued = issued_at(height);
         Sums {
             height,
             outputs,
-            immature: sum_of_immature(height + 1, facts),
+            immature: sum_of_immature(height + 1, register.as_slice()),
             escrow,
-            pool: sum_of_taxes(facts),
-            unclaimed,
-            issued: outputs + escrow + unclaimed,
+            pool: register.pool(),
+            unclaimed: issued - outputs - escrow,
+            issued,
         }
     }
 
@@ -237,21 +236,21 @@ impl Ledger {
         ensures right { EachProofIsRight self.now }
         ensures missed { (result ≡ status.Missed) ↔ EndedUnproved self.now contract.now }
     {
-        status_among(self.base().facts(), contract)
+        status_among(self.base().register(), contract)
     }
 
     /// The present terms of the running contract with this identifier; `None` where none runs. Its error is want of memory.
     pub fn terms(&self, alloc: Global, contract: &Hash) -> Result<Option<Terms>, AllocError>
         ensures { IfOk result (λ terms. terms ≡ terms_of self.now contract.now) }
     {
-        terms_among(alloc, self.base().facts(), contract)
+        terms_among(alloc, self.base().register(), contract)
     }
 
     /// The live siacoin outputs at an address, by ascending identifiers. Its error is want of memory.
     pub fn coins(&self, alloc: Global, address: &Hash) -> Result<List<Coin>, AllocError>
         ensures { IfOk result (λ coins. coins ≡ coins_at self.now address.now) }
     {
-        owned_by(alloc, address, self.base().facts())
+        owned_by(alloc, address, self.base().register().as_slice())
     }
 
     // What is kept of the chain.
@@ -266,7 +265,7 @@ impl Ledger {
         ensures within { (block : Block) → IsBounded (with_block block (state_of self.now)) }
         ensures totals { Totals self.now (facts self.now) }
     {
-        Base::new(self.ids.as_slice(), self.facts.as_slice())
+        Base::new(self.ids.as_slice(), &self.register)
     }
 
     // What the block makes and does behind this chain, or the first rule that it breaks.

@@ -61,6 +61,8 @@ mod params;
 mod parts;
 mod present;
 mod proving;
+mod register;
+mod running;
 mod settling;
 mod sums;
 mod transactions;

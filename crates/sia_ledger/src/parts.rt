@@ -3,6 +3,7 @@ ghost use Rattle.std.specs.Prelude.{◌≡◌, ℕ, ◌-◌, ◌++◌, ◌∷◌
 
 use crate::fact::Fact;
 use crate::judging::Judged;
+use crate::register::Register;
 use sia_blake::Hash;
 use sia_encoding::List;
 use sia_types::Block;
@@ -13,30 +14,28 @@ use std::alloc::AllocError;
 pub(crate) fn push_block(
     blocks: &mut List<Block>,
     ids: &mut List<Hash>,
-    facts: &mut List<Fact>,
+    register: &mut Register,
     marks: &mut List<u64>,
     block: Block,
     judged: Judged,
 ) -> Result<(), AllocError>
     ensures blocks { OnOk result (blocks.new ≡ blocks.old ++ block ∷ []) }
     ensures ids { OnOk result (ids.new ≡ ids.old ++ judged.id ∷ []) }
-    ensures facts { OnOk result (facts.new ≡ facts.old ++ judged.made) }
-    ensures marks { OnOk result (marks.new ≡ marks.old ++ length facts.old ∷ []) }
+    ensures facts { OnOk result (register.new ≡ register.old ++ judged.made) }
+    ensures marks { OnOk result (marks.new ≡ marks.old ++ length register.old ∷ []) }
     ensures blocks_stay { OnErr result (blocks.new ≡ blocks.old) }
     ensures ids_stay { OnErr result (ids.new ≡ ids.old) }
-    ensures facts_stay { OnErr result (facts.new ≡ facts.old) }
+    ensures facts_stay { OnErr result (register.new ≡ register.old) }
     ensures marks_stay { OnErr result (marks.new ≡ marks.old) }
 {
     let Judged { id, made } = judged;
-    let mut made = made;
     let (block_count, id_count) = (blocks.len(), ids.len());
-    let mark = facts.len() as u64;
     blocks.push(block)?;
     if ids.push(id).is_err() {
         blocks.truncate(block_count);
         return Err(AllocError);
     }
-    if push_marked(facts, marks, &mut made, mark).is_err() {
+    if push_marked(register, marks, made).is_err() {
         blocks.truncate(block_count);
         ids.truncate(id_count);
         return Err(AllocError);
@@ -44,35 +43,34 @@ pub(crate) fn push_block(
     Ok(())
 }
 
-// Puts facts behind the last ones, and a mark behind the last mark. Its error is want of memory: both lists stay.
+// Puts facts behind the last ones, and a mark behind the last mark. Its error is want of memory: both stay.
 fn push_marked(
-    facts: &mut List<Fact>,
+    register: &mut Register,
     marks: &mut List<u64>,
-    made: &mut List<Fact>,
-    mark: u64,
+    made: List<Fact>,
 ) -> Result<(), AllocError>
-    ensures facts { OnOk result (facts.new ≡ facts.old ++ made.old) }
-    ensures marks { OnOk result (marks.new ≡ marks.old ++ mark ∷ []) }
-    ensures facts_stay { OnErr result (facts.new ≡ facts.old) }
+    ensures facts { OnOk result (register.new ≡ register.old ++ made) }
+    ensures marks { OnOk result (marks.new ≡ marks.old ++ length register.old ∷ []) }
+    ensures facts_stay { OnErr result (register.new ≡ register.old) }
     ensures marks_stay { OnErr result (marks.new ≡ marks.old) }
 {
     let count = marks.len();
-    marks.push(mark)?;
-    if facts.append(made).is_err() {
+    marks.push(register.len() as u64)?;
+    if register.append(made).is_err() {
         marks.truncate(count);
         return Err(AllocError);
     }
     Ok(())
 }
 
-/// Takes back the identifier of the last block, its mark, and what stands behind that.
-pub(crate) fn drop_block(ids: &mut List<Hash>, facts: &mut List<Fact>, marks: &mut List<u64>)
+/// Takes back the identifier of the last block, its mark, and what stands behind that. It takes no memory.
+pub(crate) fn drop_block(ids: &mut List<Hash>, register: &mut Register, marks: &mut List<u64>)
     ensures ids { ids.new ≡ take (length ids.old - 1) ids.old }
-    ensures facts { (earlier : Sequence ℕ) (mark : ℕ) → marks.old ≡ earlier ++ mark ∷ [] → facts.new ≡ take mark facts.old }
+    ensures facts { (earlier : Sequence ℕ) (mark : ℕ) → marks.old ≡ earlier ++ mark ∷ [] → register.new ≡ take mark register.old }
     ensures marks { (earlier : Sequence ℕ) (mark : ℕ) → marks.old ≡ earlier ++ mark ∷ [] → marks.new ≡ earlier }
 {
     ids.truncate(ids.len().saturating_sub(1));
     if let Some(mark) = marks.pop() {
-        facts.truncate(mark as usize);
+        register.truncate(mark as usize);
     }
 }

@@ -1,11 +1,11 @@
-use Rattle.std.proofs.Common.{◌≡◌, ap, sym, ◌∙◌}
+use Rattle.std.proofs.Common.{sym}
 use Rattle.sia_ledger.proofs.Bounds.{block_bounded, kept_bounded}
 use Rattle.sia_ledger.proofs.Grown.{kept_count}
 use Rattle.sia_ledger.proofs.Totals.{kept_facts, kept_ids, kept_totals}
 use Rattle.sia_ledger.proofs.ledger.Ledger.base.Goals as goal
 
 pub returns-clause-state : goal.returns-clause-state
-returns-clause-state c = rw (c.new.ensures, c.as_slice.ensures, c.as_slice-2.ensures, ← c.self.view_is) (sym c.self.invariant.state)
+returns-clause-state c = rw (c.new.ensures, c.as_slice.ensures, ← c.self.view_is) (sym c.self.invariant.state)
 
 pub returns-clause-ids : goal.returns-clause-ids
 returns-clause-ids c = rw (c.new.ensures, c.as_slice.ensures, ← c.self.view_is) (kept_ids _ _ _ _ c.self.invariant)

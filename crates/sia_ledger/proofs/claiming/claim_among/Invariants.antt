@@ -1,9 +1,0 @@
-use Rattle.std.proofs.Common.{◌≡◌, length}
-use Rattle.sia_ledger.specs.Facts.{claim_at}
-use Rattle.sia_ledger.proofs.claiming.claim_among.Given as goal
-
-abbrev pub invariant-loop-first : goal.invariant-loop-first
-invariant-loop-first l = claim_at l.facts l.id ≡ claim_at l.left l.id
-
-abbrev pub decreases-loop-first : goal.decreases-loop-first
-decreases-loop-first l = length l.left

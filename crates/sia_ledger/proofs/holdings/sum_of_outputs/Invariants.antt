@@ -1,9 +1,0 @@
-use Rattle.std.proofs.Common.{◌≡◌, ◌+◌, length}
-use Rattle.sia_ledger.specs.Holdings.{outputs}
-use Rattle.sia_ledger.proofs.holdings.sum_of_outputs.Given as goal
-
-abbrev pub invariant-loop-first : goal.invariant-loop-first
-invariant-loop-first l = outputs l.facts ≡ l.sum + outputs l.rest
-
-abbrev pub decreases-loop-first : goal.decreases-loop-first
-decreases-loop-first l = length l.rest
