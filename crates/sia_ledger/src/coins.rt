@@ -5,7 +5,7 @@ ghost use Rattle.sia_ledger.specs.Known.{state_in};
 
 use crate::draft::Draft;
 use crate::fact::{Deed, Fact};
-use sia_ids::coin_id;
+use sia_ids::coin_ids;
 use sia_types::Transaction;
 use std::alloc::{AllocError, Global};
 
@@ -37,9 +37,13 @@ pub(crate) fn make_coins(
     ensures kept { draft.new.kept ≡ draft.old.kept }
     ensures ids { draft.new.ids ≡ draft.old.ids }
 {
+    if tx.coin_outputs.is_empty() {
+        return Ok(());
+    }
     let from = draft.next();
+    let ids = coin_ids(alloc, tx)?;
     for (index, output) in tx.coin_outputs.as_slice().iter().enumerate() {
-        let id = coin_id(alloc, tx, index as u64)?;
+        let id = ids.id(index as u64);
         let output = *output;
         draft.add(Fact {
             id,

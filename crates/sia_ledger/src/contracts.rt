@@ -5,7 +5,7 @@ ghost use Rattle.sia_ledger.specs.Known.{state_in};
 
 use crate::draft::Draft;
 use crate::fact::{Deed, Fact};
-use sia_ids::contract_id;
+use sia_ids::contract_ids;
 use sia_types::{FileContract, Revision, Terms, Transaction};
 use std::alloc::{AllocError, Global};
 
@@ -20,8 +20,12 @@ pub(crate) fn form_contracts(
     ensures kept { draft.new.kept ≡ draft.old.kept }
     ensures ids { draft.new.ids ≡ draft.old.ids }
 {
+    if tx.contracts.is_empty() {
+        return Ok(());
+    }
+    let ids = contract_ids(alloc, tx)?;
     for (index, contract) in tx.contracts.as_slice().iter().enumerate() {
-        let id = contract_id(alloc, tx, index as u64)?;
+        let id = ids.id(index as u64);
         let terms = terms_formed(alloc, contract)?;
         draft.add(Fact {
             id,

@@ -8,7 +8,7 @@ ghost use Rattle.sia_ledger.specs.State.{next};
 
 use crate::draft::Draft;
 use crate::fact::{Deed, Fact};
-use sia_ids::{claim_id, fund_id};
+use sia_ids::{claim_id, fund_ids};
 use sia_types::{CoinOutput, FundInput, Transaction};
 use std::alloc::{AllocError, Global};
 
@@ -69,8 +69,12 @@ pub(crate) fn make_funds(
     ensures kept { draft.new.kept ≡ draft.old.kept }
     ensures ids { draft.new.ids ≡ draft.old.ids }
 {
+    if tx.fund_outputs.is_empty() {
+        return Ok(());
+    }
+    let ids = fund_ids(alloc, tx)?;
     for (index, output) in tx.fund_outputs.as_slice().iter().enumerate() {
-        let id = fund_id(alloc, tx, index as u64)?;
+        let id = ids.id(index as u64);
         let output = *output;
         draft.add(Fact {
             id,
