@@ -30,6 +30,12 @@ def check_feeds(folder):
     check_refused("a block on another parent", ["ledger", CONFIG, feed], f"block 1 B1 BadParent {tip}")
 
 
+def check_long_chain(folder):
+    """A body that compares each new identifier with all earlier ones makes 10^10 comparisons here."""
+    _, feed = written(folder, "there_and_back", "blocks 100000\nreverts 100000\n")
+    check_run("100,000 blocks and as many reverts", ["ledger", CONFIG, feed], 0, out=sums(FEEDS / "empty.txt"))
+
+
 def check_configurations(folder):
     def of(name, text):
         path = folder / name
