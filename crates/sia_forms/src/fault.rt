@@ -17,7 +17,7 @@ pub enum FormFault {
     /// The transaction isn't what the host asks for.
     BadContract {
         /// What fails first: 0 the transaction's parts, 1 what the contract begins with, 2 whom it pays, 3 its window, 4 the
-        /// host's value and collateral.
+        /// host's value and collateral, 5 its identifier, which the host knows already. No call of this crate answers 5.
         point: u64,
     },
     /// Memory ran out.
