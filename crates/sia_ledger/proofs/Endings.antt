@@ -99,10 +99,10 @@ ends_then : (height : ℕ) (found : Option Terms) (terms : Terms) → ends_at he
 ends_then height None terms e is = cc
 ends_then height (Some t) terms e is = let same : t ≡ terms = cc in ap (λ (x : Terms). x.end) (sym same) ∙ eqb-true t.end height e
 
-all_from : (done : ℕ) (facts : List Fact) (all part : List (List ℕ)) → ((id : List ℕ) → list_any (λ c. bytes_eq c id) part ≡ true → list_any (λ c. bytes_eq c id) all ≡ true) → ((id : List ℕ) → list_any (λ c. bytes_eq c id) all ≡ true → (terms : Terms) → terms_at facts id ≡ Some terms → terms.end ≤ done) → AllEnd done facts part
-all_from done facts all [] inside ends = tt
-all_from done facts all (contract ∷ contracts) inside ends =
-    (ends contract (inside contract (left (bytes_eq contract contract) (list_any (λ c. bytes_eq c contract) contracts) (same-self contract))), all_from done facts all contracts (λ id there. inside id (right (bytes_eq contract id) (list_any (λ c. bytes_eq c id) contracts) there)) ends)
+all_from : (ended : ℕ → Bool) (facts : List Fact) (all part : List (List ℕ)) → ((id : List ℕ) → list_any (λ c. bytes_eq c id) part ≡ true → list_any (λ c. bytes_eq c id) all ≡ true) → ((id : List ℕ) → list_any (λ c. bytes_eq c id) all ≡ true → (terms : Terms) → terms_at facts id ≡ Some terms → ended terms.end ≡ true) → AllEnd ended facts part
+all_from ended facts all [] inside ends = tt
+all_from ended facts all (contract ∷ contracts) inside ends =
+    (ends contract (inside contract (left (bytes_eq contract contract) (list_any (λ c. bytes_eq c contract) contracts) (same-self contract))), all_from ended facts all contracts (λ id there. inside id (right (bytes_eq contract id) (list_any (λ c. bytes_eq c id) contracts) there)) ends)
   where
     left : (b c : Bool) → b ≡ true → (b || c) ≡ true
     left b c e = ap (λ x. x || c) e
@@ -111,7 +111,6 @@ all_from done facts all (contract ∷ contracts) inside ends =
     right true c e = refl
     right false c e = e
 
-pub all_end : (height : ℕ) (facts : List Fact) → AllEnd height facts (ending height facts)
-all_end height facts = all_from height facts (ending height facts) (ending height facts) (λ id there. there) (λ id there terms runs.
-    let e : terms.end ≡ height = ends_then height (terms_at facts id) terms (sym (is_ending height id facts) ∙ there) runs in
-    omega (arith, e))
+pub all_end : (ended : ℕ → Bool) (height : ℕ) (facts : List Fact) → ended height ≡ true → AllEnd ended facts (ending height facts)
+all_end ended height facts now = all_from ended facts (ending height facts) (ending height facts) (λ id there. there) (λ id there terms runs.
+    ap ended (ends_then height (terms_at facts id) terms (sym (is_ending height id facts) ∙ there) runs) ∙ now)

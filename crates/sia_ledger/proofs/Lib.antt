@@ -8,6 +8,7 @@ pub mod Conserved
 pub mod Consumed
 pub mod Course
 pub mod Covering
+pub mod EachSum
 pub mod Endings
 pub mod Grown
 pub mod Halves
@@ -17,6 +18,7 @@ pub mod Keeps
 pub mod LastDeeds
 pub mod LastId
 pub mod Lengths
+pub mod MadeSums
 pub mod Missed
 pub mod Moves
 pub mod NeedFaults

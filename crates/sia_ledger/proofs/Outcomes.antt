@@ -1,10 +1,11 @@
 -- A contract is settled as valid exactly where a block holds a storage proof for it, and as missed exactly where its end has come and
--- none does.
-use Rattle.std.proofs.Common.{◌≡◌, ℕ, ◌+◌, ◌<◌, ◌≤◌, Bool, true, false, List, [], ◌∷◌, ◌++◌, length, map, refl, ap, sym, ◌∙◌, arith, subst}
+-- no block up to that one does.
+use Rattle.std.proofs.Common.{◌≡◌, ℕ, zero, suc, ◌+◌, ◌<◌, ◌≤◌, Bool, true, false, List, [], ◌∷◌, ◌++◌, length, map, take, refl, ap, sym, ◌∙◌, arith, subst, append_assoc, length-append}
 use Rattle.std.specs.Prelude.{◌||◌, ◌&&◌, ◌==◌, ◌↔◌, ◌≢◌, not, fold, nat_lt, nat_eq, Option, Some, None, if◌then◌else◌, is_some}
 use Rattle.std.specs.Option.{option_or, option_and_then}
 use Rattle.std.specs.List.{list_any}
-use Rattle.std.proofs.lemmas.Bool.{ltb-true, ltb-false, eqb-true, eqb-false}
+use Rattle.std.proofs.lemmas.Bool.{ltb-true, ltb-false, eqb-true, eqb-false, not-true}
+use Rattle.std.proofs.lemmas.List.{append-nil}
 use Rattle.sia_encoding.specs.Firsts.{broken, ◌or_else◌, first_at}
 use Rattle.sia_types.specs.declared.block.Block.{Block}
 use Rattle.sia_types.specs.declared.coins.CoinInput.{CoinInput}
@@ -44,8 +45,8 @@ use Rattle.sia_ledger.proofs.Keeps.{Runs, KeepsTerms, KeepsFunds}
 use Rattle.sia_ledger.proofs.Stages.{LiveFunds, AllRevise}
 use Rattle.sia_ledger.proofs.Standing.{breaks_none, or_none, unbroken, not-false, and-true, or-false, there}
 use Rattle.sia_ledger.proofs.Conserved.{IsWholly, spent_coins, made_coins, formed_contracts, revised_contracts, proved_contracts, spent_funds, transaction_passes, transaction_most, own_most, wholly_most, block_stands, block_whole, genesis_whole, genesis_next, next-more, numbered-new}
-use Rattle.sia_ledger.proofs.Course.{Course, CourseAt, running, course_add, AllLater, AllEndLater, all_later, course_inputs, course_coins, course_contracts, course_revisions, course_funds}
-use Rattle.sia_ledger.proofs.Missed.{AllRun, all_run-kept, course_proofs, course_fund_inputs, AllEnd, AllMissed, miss_all}
+use Rattle.sia_ledger.proofs.Course.{Course, CourseAt, past_of, running, course_add, AllLater, AllEndLater, all_later, course_inputs, course_coins, course_contracts, course_revisions, course_funds}
+use Rattle.sia_ledger.proofs.Missed.{AllRun, all_run-kept, second, course_proofs, course_fund_inputs, AllEnd, AllMissed, miss_all}
 use Rattle.sia_ledger.proofs.Endings.{all_end, is_ending}
 
 all_run : (facts : List Fact) (t i : ℕ) (proofs : List StorageProof) → first_at (unprovable facts t) i proofs ≡ None → AllRun facts proofs
@@ -71,9 +72,9 @@ proved_once : (t : ℕ) (tx : Transaction) → repeated t tx ≡ None → names_
 unfolding repeated
 proved_once t tx none = (or-false _ (names_twice (proof_parents tx.proofs)) (unbroken _ _ none)).1
 
-pub course_transaction : (accepts : List ℕ → List ℕ → List ℕ → Bool) (maturity : ℕ) (s : State) (t : ℕ) (tx : Transaction) (fees sum done : ℕ) (proved : Bool) (id : List ℕ) → IsMost s fees sum → transaction_refusal accepts s t tx ≡ None → CourseAt (next s) done proved id s.facts → CourseAt (next s) done (proved || proves id tx.proofs) id (after_transaction maturity s tx).facts
+pub course_transaction : (accepts : List ℕ → List ℕ → List ℕ → Bool) (maturity : ℕ) (s : State) (t : ℕ) (tx : Transaction) (fees sum : ℕ) (past : Bool → ℕ → Bool) (proved : Bool) (id : List ℕ) → IsMost s fees sum → transaction_refusal accepts s t tx ≡ None → (proves id tx.proofs ≡ true → (end : ℕ) → next s ≤ end → past true end ≡ true) → CourseAt (next s) past proved id s.facts → CourseAt (next s) past (proved || proves id tx.proofs) id (after_transaction maturity s tx).facts
 unfolding after_transaction with_coin_inputs with_coin_outputs with_contracts with_revisions with_proofs with_fund_inputs with_fund_outputs
-course_transaction accepts maturity s t tx fees sum done proved id was accepted course =
+course_transaction accepts maturity s t tx fees sum past proved id was accepted early course =
     let s1 = spent_coins tx s in
     let s2 = made_coins tx s in
     let s3 = formed_contracts tx s in
@@ -83,14 +84,14 @@ course_transaction accepts maturity s t tx fees sum done proved id was accepted 
     let all = transaction_passes accepts maturity s t tx fees sum was accepted in
     let rules = breaks_none accepts s t tx accepted in
     let kept : KeepsTerms s.facts s4.facts = λ i payout runs. all.revisions.terms i payout (all.contracts.terms i payout (all.coin_outputs.terms i payout (all.coin_inputs.terms i payout runs))) in
-    let c1 : CourseAt (next s) done proved id s1.facts = course_inputs (next s) done proved id tx.coin_inputs s (coins_in s.facts tx) all.stands.coins all.stands.coins_once course in
-    let c2 : CourseAt (next s) done proved id s2.facts = course_coins (next s) done proved id (coin_id tx) (next s1) 0 tx.coin_outputs s1 c1 in
-    let c3 : CourseAt (next s) done proved id s3.facts = course_contracts (next s) done proved id (contract_id tx) 0 tx.contracts s2 (all_later (next s) t 0 tx.contracts rules.windows) c2 in
-    let c4 : CourseAt (next s) done proved id s4.facts = course_revisions (next s) done proved id tx.revisions s3 (all_end_later (next s) s.facts t 0 tx.revisions all.stands.revises rules.rev_windows) c3 in
+    let c1 : CourseAt (next s) past proved id s1.facts = course_inputs (next s) past proved id tx.coin_inputs s (coins_in s.facts tx) all.stands.coins all.stands.coins_once course in
+    let c2 : CourseAt (next s) past proved id s2.facts = course_coins (next s) past proved id (coin_id tx) (next s1) 0 tx.coin_outputs s1 c1 in
+    let c3 : CourseAt (next s) past proved id s3.facts = course_contracts (next s) past proved id (contract_id tx) 0 tx.contracts s2 (all_later (next s) t 0 tx.contracts rules.windows) c2 in
+    let c4 : CourseAt (next s) past proved id s4.facts = course_revisions (next s) past proved id tx.revisions s3 (all_end_later (next s) s.facts t 0 tx.revisions all.stands.revises rules.rev_windows) c3 in
     let run = all_run-kept s.facts s4.facts tx.proofs kept (all_run s.facts t 0 tx.proofs rules.provable) in
-    let c5 : CourseAt (next s) done (proved || proves id tx.proofs) id s5.facts = course_proofs (next s) done proved id maturity tx.proofs s4 run (proved_once t tx rules.once) c4 in
-    let c6 : CourseAt (next s) done (proved || proves id tx.proofs) id s6.facts = course_fund_inputs (next s) done (proved || proves id tx.proofs) id maturity tx.fund_inputs s5 (funds_in s.facts tx) all.live all.stands.funds_once all.proofs.pays c5 in
-    course_funds (next s) done (proved || proves id tx.proofs) id (fund_id tx) 0 tx.fund_outputs s6 c6
+    let c5 : CourseAt (next s) past (proved || proves id tx.proofs) id s5.facts = course_proofs (next s) past proved id maturity tx.proofs s4 run (proved_once t tx rules.once) early c4 in
+    let c6 : CourseAt (next s) past (proved || proves id tx.proofs) id s6.facts = course_fund_inputs (next s) past (proved || proves id tx.proofs) id maturity tx.fund_inputs s5 (funds_in s.facts tx) all.live all.stands.funds_once all.proofs.pays c5 in
+    course_funds (next s) past (proved || proves id tx.proofs) id (fund_id tx) 0 tx.fund_outputs s6 c6
 
 eqb-refl : (n : ℕ) → (n == n) ≡ true
 eqb-refl n = by (n == n) refl
@@ -109,11 +110,11 @@ add_ids s x = by (makes x.deed && is_known s.facts x.id)
     by true = refl
     by false = refl
 
-each_ids : {X : Type 0} (step : State → X → State) → ((s : State) (x : X) → (step s x).ids ≡ s.ids) → (xs : List X) (s : State) → (fold step s xs).ids ≡ s.ids
+pub each_ids : {X : Type 0} (step : State → X → State) → ((s : State) (x : X) → (step s x).ids ≡ s.ids) → (xs : List X) (s : State) → (fold step s xs).ids ≡ s.ids
 each_ids step one [] s = refl
 each_ids step one (x ∷ xs) s = each_ids step one xs (step s x) ∙ one s x
 
-settled_ids : (from : ℕ) (valid : Bool) (s : State) (contract : List ℕ) → (settled from valid s contract).ids ≡ s.ids
+pub settled_ids : (from : ℕ) (valid : Bool) (s : State) (contract : List ℕ) → (settled from valid s contract).ids ≡ s.ids
 settled_ids from valid s contract = by (terms_at s.facts contract)
   where
     by : (found : Option Terms) → (settled_with from valid s contract found).ids ≡ s.ids
@@ -150,44 +151,51 @@ or_assoc : (a b c : Bool) → ((a || b) || c) ≡ (a || (b || c))
 or_assoc true b c = refl
 or_assoc false b c = refl
 
-course_transactions : (accepts : List ℕ → List ℕ → List ℕ → Bool) (maturity : ℕ) (t : ℕ) (txs : List Transaction) (s : State) (fees sum low done : ℕ) (proved : Bool) (id : List ℕ) → next s ≡ low → IsMost s fees sum → transactions_refusal accepts maturity s t txs ≡ None → CourseAt low done proved id s.facts → CourseAt low done (proved || proves_in id txs) id (fold (after_transaction maturity) s txs).facts
+course_transactions : (accepts : List ℕ → List ℕ → List ℕ → Bool) (maturity : ℕ) (t : ℕ) (txs : List Transaction) (s : State) (fees sum low : ℕ) (past : Bool → ℕ → Bool) (proved : Bool) (id : List ℕ) → next s ≡ low → IsMost s fees sum → transactions_refusal accepts maturity s t txs ≡ None → (proves_in id txs ≡ true → (end : ℕ) → low ≤ end → past true end ≡ true) → CourseAt low past proved id s.facts → CourseAt low past (proved || proves_in id txs) id (fold (after_transaction maturity) s txs).facts
 unfolding transactions_refusal
-course_transactions accepts maturity t [] s fees sum low done proved id at was accepted course = subst (λ p. CourseAt low done p id s.facts) (sym (or_false proved)) course
-course_transactions accepts maturity t (tx ∷ txs) s fees sum low done proved id at was accepted course =
+course_transactions accepts maturity t [] s fees sum low past proved id at was accepted early course = subst (λ p. CourseAt low past p id s.facts) (sym (or_false proved)) course
+course_transactions accepts maturity t (tx ∷ txs) s fees sum low past proved id at was accepted early course =
     let both = or_none (transaction_refusal accepts s t tx) _ accepted in
     let s1 = after_transaction maturity s tx in
-    let one = course_transaction accepts maturity s t tx fees sum done proved id was both.0 (subst (λ l. CourseAt l done proved id s.facts) (sym at) course) in
-    let here : CourseAt low done (proved || proves id tx.proofs) id s1.facts = subst (λ l. CourseAt l done (proved || proves id tx.proofs) id s1.facts) at one in
+    let first : proves id tx.proofs ≡ true → (end : ℕ) → next s ≤ end → past true end ≡ true = λ e end from. early (ap (λ b. b || proves_in id txs) e) end (subst (λ l. l ≤ end) at from) in
+    let one = course_transaction accepts maturity s t tx fees sum past proved id was both.0 first (subst (λ l. CourseAt l past proved id s.facts) (sym at) course) in
+    let here : CourseAt low past (proved || proves id tx.proofs) id s1.facts = subst (λ l. CourseAt l past (proved || proves id tx.proofs) id s1.facts) at one in
     let at1 : next s1 ≡ low = ap (λ (ids : List (List ℕ)). length ids) (transaction_ids maturity s tx) ∙ at in
-    let rest = course_transactions accepts maturity (t + 1) txs s1 (fees + fees_of tx) sum low done (proved || proves id tx.proofs) id at1 (transaction_most accepts maturity s t tx fees sum was both.0) both.1 here in
-    subst (λ p. CourseAt low done p id (fold (after_transaction maturity) s1 txs).facts) (or_assoc proved (proves id tx.proofs) (proves_in id txs)) rest
+    let rest = course_transactions accepts maturity (t + 1) txs s1 (fees + fees_of tx) sum low past (proved || proves id tx.proofs) id at1 (transaction_most accepts maturity s t tx fees sum was both.0) both.1 (λ e. early (second (proves id tx.proofs) (proves_in id txs) e)) here in
+    subst (λ p. CourseAt low past p id (fold (after_transaction maturity) s1 txs).facts) (or_assoc proved (proves id tx.proofs) (proves_in id txs)) rest
 
-pub course_weaker : (low done more : ℕ) (proved : Bool) (final : Option Terms) (found : Option Deed) → done ≤ more → Course low done proved final found → Course low more proved final found
-course_weaker low done more proved final None le c = c
-course_weaker low done more proved final (Some deed.Block) le c = c
-course_weaker low done more proved final (Some (deed.Coin output from)) le c = c
-course_weaker low done more proved final (Some (deed.Fund output)) le c = c
-course_weaker low done more proved final (Some (deed.Formed t)) le c = c
-course_weaker low done more proved final (Some deed.Spent) le c = c
-course_weaker low done more proved final (Some (deed.Revised t)) le c = c
-course_weaker low done more proved final (Some (deed.Settled valid)) le (is, (terms, last, ended)) = (is, (terms, last, λ e. let before : terms.end ≤ done = ended e in omega (arith, before, le)))
+pub course_weaker : (low : ℕ) (before after : Bool → ℕ → Bool) (proved : Bool) (final : Option Terms) (found : Option Deed) → ((valid : Bool) (end : ℕ) → before valid end ≡ true → after valid end ≡ true) → Course low before proved final found → Course low after proved final found
+course_weaker low before after proved final None kept c = c
+course_weaker low before after proved final (Some deed.Block) kept c = c
+course_weaker low before after proved final (Some (deed.Coin output from)) kept c = c
+course_weaker low before after proved final (Some (deed.Fund output)) kept c = c
+course_weaker low before after proved final (Some (deed.Formed t)) kept c = c
+course_weaker low before after proved final (Some deed.Spent) kept c = c
+course_weaker low before after proved final (Some (deed.Revised t)) kept c = c
+course_weaker low before after proved final (Some (deed.Settled valid)) kept (is, (terms, last, passed)) = (is, (terms, last, kept valid terms.end passed))
 
-course_raised : (low higher done : ℕ) (proved : Bool) (final : Option Terms) (found : Option Deed) → ((terms : Terms) → terms_in found ≡ Some terms → higher ≤ terms.end) → Course low done proved final found → Course higher done proved final found
-course_raised low higher done proved final None up c = c
-course_raised low higher done proved final (Some deed.Block) up c = c
-course_raised low higher done proved final (Some (deed.Coin output from)) up c = c
-course_raised low higher done proved final (Some (deed.Fund output)) up c = c
-course_raised low higher done proved final (Some (deed.Formed t)) up c = (c.0, up t refl, c.2)
-course_raised low higher done proved final (Some deed.Spent) up c = c
-course_raised low higher done proved final (Some (deed.Revised t)) up c = (c.0, up t refl, c.2)
-course_raised low higher done proved final (Some (deed.Settled valid)) up c = c
+course_raised : (low higher : ℕ) (past : Bool → ℕ → Bool) (proved : Bool) (final : Option Terms) (found : Option Deed) → ((terms : Terms) → terms_in found ≡ Some terms → higher ≤ terms.end) → Course low past proved final found → Course higher past proved final found
+course_raised low higher past proved final None up c = c
+course_raised low higher past proved final (Some deed.Block) up c = c
+course_raised low higher past proved final (Some (deed.Coin output from)) up c = c
+course_raised low higher past proved final (Some (deed.Fund output)) up c = c
+course_raised low higher past proved final (Some (deed.Formed t)) up c = (c.0, up t refl, c.2)
+course_raised low higher past proved final (Some deed.Spent) up c = c
+course_raised low higher past proved final (Some (deed.Revised t)) up c = (c.0, up t refl, c.2)
+course_raised low higher past proved final (Some (deed.Settled valid)) up c = c
 
 ends_true : (height : ℕ) (found : Option Terms) (terms : Terms) → found ≡ Some terms → terms.end ≡ height → ends_at height found ≡ true
 ends_true height found terms is e = ap (ends_at height) is ∙ ap (λ n. n == height) e ∙ eqb-refl height
 
-pub course_block : (accepts : List ℕ → List ℕ → List ℕ → Bool) (maturity : ℕ) (s : State) (block : Block) (sum height : ℕ) (proved : Bool) (id : List ℕ) → next s ≡ height + 1 → IsWholly s sum → verdict accepts maturity s block ≡ None → CourseAt (height + 1) height proved id s.facts → CourseAt (height + 1 + 1) (height + 1) (proved || proves_in id block.transactions) id (after_block maturity s block).facts
+-- A block at a height leaves what has come to pass; one that holds a proof proves by that height, and the ends at it have come.
+pub record Passes (before after : Bool → ℕ → Bool) (height : ℕ) (proves_here : Bool) : Type 0 where
+  pub kept : (valid : Bool) (end : ℕ) → before valid end ≡ true → after valid end ≡ true
+  pub proved : proves_here ≡ true → (end : ℕ) → height ≤ end → after true end ≡ true
+  pub ended : after false height ≡ true
+
+pub course_block : (accepts : List ℕ → List ℕ → List ℕ → Bool) (maturity : ℕ) (s : State) (block : Block) (sum height : ℕ) (before after : Bool → ℕ → Bool) (proved : Bool) (id : List ℕ) → Passes before after (height + 1) (proves_in id block.transactions) → next s ≡ height + 1 → IsWholly s sum → verdict accepts maturity s block ≡ None → CourseAt (height + 1) before proved id s.facts → CourseAt (height + 1 + 1) after (proved || proves_in id block.transactions) id (after_block maturity s block).facts
 unfolding after_block done_by with_block with_transactions with_missed with_payouts
-course_block accepts maturity s block sum height proved id at was accepted course =
+course_block accepts maturity s block sum height before after proved id passes at was accepted course =
     let stands = block_stands accepts maturity s block accepted in
     let x = fact (block_id block) deed.Block in
     let s0 : State = record s { twice = None } in
@@ -199,15 +207,14 @@ course_block accepts maturity s block sum height proved id at was accepted cours
     let most1 : IsMost s1 0 sum = own_most s block sum (wholly_most s sum was) was.whole in
     let at1 : next s1 ≡ low = ap (λ (ids : List (List ℕ)). length ids) (add_ids s0 x) ∙ at in
     let at2 : next s2 ≡ low = ap (λ (ids : List (List ℕ)). length ids) (each_ids (after_transaction maturity) (transaction_ids maturity) block.transactions s1) ∙ at1 in
-    let later : height ≤ low = omega arith in
-    let c0 : CourseAt low low proved id s0.facts = course_weaker low height low proved (final_in s.facts id) (last_deed s.facts id) later course in
-    let c1 : CourseAt low low proved id s1.facts = course_add low low proved id s0 x refl (λ final none unproved. (unproved, none)) c0 in
-    let c2 : CourseAt low low p id s2.facts = course_transactions accepts maturity 0 block.transactions s1 0 sum low low proved id at1 most1 stands.each c1 in
-    let ends : AllEnd low s2.facts (ending (next s2) s2.facts) = subst (λ h. AllEnd h s2.facts (ending (next s2) s2.facts)) at2 (all_end (next s2) s2.facts) in
-    let missed : AllMissed low low p id s2 s3 (ending (next s2) s2.facts) = miss_all low low p id (next s2 + maturity) (ending (next s2) s2.facts) s2 ends c2 in
-    let up : (terms : Terms) → terms_at s3.facts id ≡ Some terms → low + 1 ≤ terms.end = λ terms runs. by terms (running low low p (final_in s3.facts id) (last_deed s3.facts id) terms runs missed.course).1 (λ e. missed.gone (is_ending (next s2) id s2.facts ∙ ends_true (next s2) (terms_at s2.facts id) terms (missed.back id terms runs) (e ∙ sym at2)) terms runs) in
-    let c3 : CourseAt (low + 1) low p id s3.facts = course_raised low (low + 1) low p (final_in s3.facts id) (last_deed s3.facts id) up missed.course in
-    course_coins (low + 1) low p id (payout_id (block_id block)) (next s3 + maturity) 0 block.payouts s3 c3
+    let c0 : CourseAt low after proved id s0.facts = course_weaker low before after proved (final_in s.facts id) (last_deed s.facts id) passes.kept course in
+    let c1 : CourseAt low after proved id s1.facts = course_add low after proved id s0 x refl (λ final none unproved. (unproved, none)) c0 in
+    let c2 : CourseAt low after p id s2.facts = course_transactions accepts maturity 0 block.transactions s1 0 sum low after proved id at1 most1 stands.each passes.proved c1 in
+    let ends : AllEnd (after false) s2.facts (ending (next s2) s2.facts) = all_end (after false) (next s2) s2.facts (ap (after false) at2 ∙ passes.ended) in
+    let missed : AllMissed low after p id s2 s3 (ending (next s2) s2.facts) = miss_all low after p id (next s2 + maturity) (ending (next s2) s2.facts) s2 ends c2 in
+    let up : (terms : Terms) → terms_at s3.facts id ≡ Some terms → low + 1 ≤ terms.end = λ terms runs. by terms (running low after p (final_in s3.facts id) (last_deed s3.facts id) terms runs missed.course).1 (λ e. missed.gone (is_ending (next s2) id s2.facts ∙ ends_true (next s2) (terms_at s2.facts id) terms (missed.back id terms runs) (e ∙ sym at2)) terms runs) in
+    let c3 : CourseAt (low + 1) after p id s3.facts = course_raised low (low + 1) after p (final_in s3.facts id) (last_deed s3.facts id) up missed.course in
+    course_coins (low + 1) after p id (payout_id (block_id block)) (next s3 + maturity) 0 block.payouts s3 c3
   where
     by : (terms : Terms) → height + 1 ≤ terms.end → (terms.end ≡ height + 1 → ⊥) → height + 1 + 1 ≤ terms.end
     by terms low not_now = cases (terms.end == height + 1) refl
@@ -219,89 +226,144 @@ course_block accepts maturity s block sum height proved id at was accepted cours
             true_false : true ≡ false → ⊥
             true_false e = cc
 
-course_blocks : (maturity : ℕ) (blocks : List Block) (s : State) (height : ℕ) (proved : Bool) (id : List ℕ) → next s ≡ height + 1 → IsWholly s (issued height) → AllAccepted maturity s blocks → CourseAt (height + 1) height proved id s.facts → CourseAt (height + length blocks + 1) (height + length blocks) (proved || is_proved id blocks) id (fold (after_block maturity) s blocks).facts
-course_blocks maturity [] s height proved id at was accepted course =
+proved_more : (id : List ℕ) (end : ℕ) (blocks : List Block) (block : Block) → is_proved id (take end blocks) ≡ true → is_proved id (take end (blocks ++ block ∷ [])) ≡ true
+proved_more id zero blocks block e = cc
+proved_more id (suc end) [] block e = cc
+proved_more id (suc end) (first ∷ rest) block e = by (proves_in id first.transactions) (proved_more id end rest block) e
+  where
+    by : (b : Bool) → (is_proved id (take end rest) ≡ true → is_proved id (take end (rest ++ block ∷ [])) ≡ true) → (b || is_proved id (take end rest)) ≡ true → (b || is_proved id (take end (rest ++ block ∷ []))) ≡ true
+    by true more e = refl
+    by false more e = more e
+
+proved_now : (id : List ℕ) (end : ℕ) (blocks : List Block) (block : Block) → proves_in id block.transactions ≡ true → length blocks + 1 ≤ end → is_proved id (take end (blocks ++ block ∷ [])) ≡ true
+proved_now id zero blocks block e from = absurd (omega (arith, from))
+proved_now id (suc end) [] block e from = ap (λ b. b || is_proved id (take end [])) e
+proved_now id (suc end) (first ∷ rest) block e from =
+    let later : length rest + 1 ≤ end = omega (arith, from) in
+    second (proves_in id first.transactions) (is_proved id (take end (rest ++ block ∷ []))) (proved_now id end rest block e later)
+
+not_below : (n end : ℕ) → end ≤ n → not (nat_lt n end) ≡ true
+not_below n end low = by (nat_lt n end) refl
+  where
+    by : (b : Bool) → nat_lt n end ≡ b → not (nat_lt n end) ≡ true
+    by true e = let high : n < end = ltb-true n end e in absurd (omega (arith, high, low))
+    by false e = ap not e
+
+passes_on : (id : List ℕ) (blocks : List Block) (block : Block) (height : ℕ) → length blocks ≡ height → Passes (past_of id blocks) (past_of id (blocks ++ block ∷ [])) (height + 1) (proves_in id block.transactions)
+passes_on id blocks block height count =
+    let more : length (blocks ++ block ∷ []) ≡ height + 1 = length-append blocks (block ∷ []) ∙ ap (λ n. n + 1) count in
+    record {
+      kept = by more;
+      proved = λ e end from. proved_now id end blocks block e (subst (λ n. n + 1 ≤ end) (sym count) from);
+      ended = not_below (length (blocks ++ block ∷ [])) (height + 1) (omega (arith, more));
+    }
+  where
+    by : length (blocks ++ block ∷ []) ≡ height + 1 → (valid : Bool) (end : ℕ) → past_of id blocks valid end ≡ true → past_of id (blocks ++ block ∷ []) valid end ≡ true
+    by more true end e = proved_more id end blocks block e
+    by more false end e = not_below (length (blocks ++ block ∷ [])) end (let low = ltb-false (length blocks) end (not-true _ e) in omega (arith, low, more, count))
+
+course_blocks : (maturity : ℕ) (earlier blocks : List Block) (s : State) (height : ℕ) (proved : Bool) (id : List ℕ) → length earlier ≡ height → next s ≡ height + 1 → IsWholly s (issued height) → AllAccepted maturity s blocks → CourseAt (height + 1) (past_of id earlier) proved id s.facts → CourseAt (height + length blocks + 1) (past_of id (earlier ++ blocks)) (proved || is_proved id blocks) id (fold (after_block maturity) s blocks).facts
+course_blocks maturity earlier [] s height proved id count at was accepted course =
     let here : height + 0 ≡ height = omega arith in
-    subst (λ p. CourseAt (height + 0 + 1) (height + 0) p id s.facts) (sym (or_false proved)) (subst (λ h. CourseAt (h + 1) h proved id s.facts) (sym here) course)
-course_blocks maturity (block ∷ blocks) s height proved id at was ((accepts, accepted), rest) course =
+    subst (λ p. CourseAt (height + 0 + 1) (past_of id (earlier ++ [])) p id s.facts) (sym (or_false proved))
+    (subst (λ h. CourseAt (h + 1) (past_of id (earlier ++ [])) proved id s.facts) (sym here)
+    (subst (λ bs. CourseAt (height + 1) (past_of id bs) proved id s.facts) (sym (append-nil earlier)) course))
+course_blocks maturity earlier (block ∷ blocks) s height proved id count at was ((accepts, accepted), rest) course =
     let s1 = after_block maturity s block in
-    let one = course_block accepts maturity s block (issued height) height proved id at was accepted course in
+    let one = course_block accepts maturity s block (issued height) height (past_of id earlier) (past_of id (earlier ++ block ∷ [])) proved id (passes_on id earlier block height count) at was accepted course in
     let more : issued height + subsidy (next s) ≡ issued (height + 1) = ap (λ n. issued height + subsidy n) at ∙ sym (issued-more height) in
     let whole : IsWholly s1 (issued (height + 1)) = subst (IsWholly s1) more (block_whole accepts maturity s block (issued height) was accepted) in
     let at1 : next s1 ≡ height + 1 + 1 = next-more maturity s block ∙ ap (λ n. n + 1) at in
-    let later = course_blocks maturity blocks s1 (height + 1) (proved || proves_in id block.transactions) id at1 whole rest one in
-    let count : height + 1 + length blocks ≡ height + length (block ∷ blocks) = omega arith in
+    let count1 : length (earlier ++ block ∷ []) ≡ height + 1 = length-append earlier (block ∷ []) ∙ ap (λ n. n + 1) count in
+    let later = course_blocks maturity (earlier ++ block ∷ []) blocks s1 (height + 1) (proved || proves_in id block.transactions) id count1 at1 whole rest one in
+    let last : height + 1 + length blocks ≡ height + length (block ∷ blocks) = omega arith in
     let end = fold (after_block maturity) s1 blocks in
-    subst (λ h. CourseAt (h + 1) h (proved || is_proved id (block ∷ blocks)) id end.facts) count
-    (subst (λ p. CourseAt (height + 1 + length blocks + 1) (height + 1 + length blocks) p id end.facts) (or_assoc proved (proves_in id block.transactions) (is_proved id blocks)) later)
+    subst (λ h. CourseAt (h + 1) (past_of id (earlier ++ block ∷ blocks)) (proved || is_proved id (block ∷ blocks)) id end.facts) last
+    (subst (λ q. CourseAt (height + 1 + length blocks + 1) (past_of id (earlier ++ block ∷ blocks)) q id end.facts) (or_assoc proved (proves_in id block.transactions) (is_proved id blocks))
+    (subst (λ bs. CourseAt (height + 1 + length blocks + 1) (past_of id bs) ((proved || proves_in id block.transactions) || is_proved id blocks) id end.facts) (append_assoc earlier (block ∷ []) blocks) later))
 
-pub course_genesis : (funds : List FundOutput) (id : List ℕ) → CourseAt 1 0 false id (genesis_state funds).facts
+pub course_genesis : (past : Bool → ℕ → Bool) (funds : List FundOutput) (id : List ℕ) → CourseAt 1 past false id (genesis_state funds).facts
 unfolding genesis_state
-course_genesis funds id =
+course_genesis past funds id =
     let empty : State = record { ids = genesis_id funds ∷ []; facts = []; twice = None } in
     let x = fact (genesis_id funds) deed.Block in
-    let first : CourseAt 1 0 false id (add empty x).facts = course_add 1 0 false id empty x refl (λ final none unproved. (unproved, none)) (refl, refl) in
-    subst (λ (t : State). CourseAt 1 0 false id t.facts) (sym (ap (add_all (add empty x)) (numbered-new (genesis_fund_id (genesis_id funds)) 0 funds))) (course_funds 1 0 false id (genesis_fund_id (genesis_id funds)) 0 (map new_fund funds) (add empty x) first)
+    let first : CourseAt 1 past false id (add empty x).facts = course_add 1 past false id empty x refl (λ final none unproved. (unproved, none)) (refl, refl) in
+    subst (λ (t : State). CourseAt 1 past false id t.facts) (sym (ap (add_all (add empty x)) (numbered-new (genesis_fund_id (genesis_id funds)) 0 funds))) (course_funds 1 past false id (genesis_fund_id (genesis_id funds)) 0 (map new_fund funds) (add empty x) first)
 
-pub course_of : (chain : Chain) → IsSound chain → (id : List ℕ) → CourseAt (height chain + 1) (height chain) (is_proved id chain.blocks) id (facts chain)
+pub course_of : (chain : Chain) → IsSound chain → (id : List ℕ) → CourseAt (height chain + 1) (past_of id chain.blocks) (is_proved id chain.blocks) id (facts chain)
 unfolding state_of
 course_of chain sound id =
-    let all = course_blocks chain.maturity chain.blocks (genesis_state chain.funds) 0 false id (genesis_next chain.funds) (genesis_whole chain.funds sound.funds sound.new) sound.accepted (course_genesis chain.funds id) in
+    let all = course_blocks chain.maturity [] chain.blocks (genesis_state chain.funds) 0 false id refl (genesis_next chain.funds) (genesis_whole chain.funds sound.funds sound.new) sound.accepted (course_genesis (past_of id []) chain.funds id) in
     let at : 0 + length chain.blocks ≡ length chain.blocks = omega arith in
-    subst (λ h. CourseAt (h + 1) h (is_proved id chain.blocks) id (fold (after_block chain.maturity) (genesis_state chain.funds) chain.blocks).facts) at all
+    subst (λ h. CourseAt (h + 1) (past_of id chain.blocks) (is_proved id chain.blocks) id (fold (after_block chain.maturity) (genesis_state chain.funds) chain.blocks).facts) at all
 
 -- valid exactly where a block holds a proof
-valid_from : (low done : ℕ) (proved : Bool) (final : Option Terms) (found : Option Deed) → Course low done proved final found → (status_in found ≡ status.Valid → proved ≡ true) × (proved ≡ true → status_in found ≡ status.Valid)
-valid_from low done proved final None c = (λ e. cc, λ e. absurd (both proved e c.0))
+valid_from : (low : ℕ) (past : Bool → ℕ → Bool) (proved : Bool) (final : Option Terms) (found : Option Deed) → Course low past proved final found → (status_in found ≡ status.Valid → proved ≡ true) × (proved ≡ true → status_in found ≡ status.Valid)
+valid_from low past proved final None c = (λ e. cc, λ e. absurd (both proved e c.0))
   where
     both : (b : Bool) → b ≡ true → b ≡ false → ⊥
     both true e f = cc
     both false e f = cc
-valid_from low done proved final (Some deed.Block) c = (λ e. cc, λ e. let f = c.0 in cc)
-valid_from low done proved final (Some (deed.Coin output from)) c = (λ e. cc, λ e. let f = c.0 in cc)
-valid_from low done proved final (Some (deed.Fund output)) c = (λ e. cc, λ e. let f = c.0 in cc)
-valid_from low done proved final (Some (deed.Formed t)) c = (λ e. cc, λ e. let f = c.2 in cc)
-valid_from low done proved final (Some deed.Spent) c = (λ e. cc, λ e. let f = c.0 in cc)
-valid_from low done proved final (Some (deed.Revised t)) c = (λ e. cc, λ e. let f = c.2 in cc)
-valid_from low done proved final (Some (deed.Settled valid)) c = by valid c.0
+valid_from low past proved final (Some deed.Block) c = (λ e. cc, λ e. let f = c.0 in cc)
+valid_from low past proved final (Some (deed.Coin output from)) c = (λ e. cc, λ e. let f = c.0 in cc)
+valid_from low past proved final (Some (deed.Fund output)) c = (λ e. cc, λ e. let f = c.0 in cc)
+valid_from low past proved final (Some (deed.Formed t)) c = (λ e. cc, λ e. let f = c.2 in cc)
+valid_from low past proved final (Some deed.Spent) c = (λ e. cc, λ e. let f = c.0 in cc)
+valid_from low past proved final (Some (deed.Revised t)) c = (λ e. cc, λ e. let f = c.2 in cc)
+valid_from low past proved final (Some (deed.Settled valid)) c = by valid c.0
   where
     by : (v : Bool) → proved ≡ v → ((if v then status.Valid else status.Missed) ≡ status.Valid → proved ≡ true) × (proved ≡ true → (if v then status.Valid else status.Missed) ≡ status.Valid)
     by true is = (λ e. is, λ e. refl)
     by false is = (λ e. cc, λ e. cc)
 
 pub settled_valid : (chain : Chain) → IsSound chain → (id : List ℕ) → (status_of chain id ≡ status.Valid) ↔ HoldsProof chain id
-settled_valid chain sound id = valid_from (height chain + 1) (height chain) (is_proved id chain.blocks) (final_in (facts chain) id) (last_deed (facts chain) id) (course_of chain sound id)
+settled_valid chain sound id = valid_from (height chain + 1) (past_of id chain.blocks) (is_proved id chain.blocks) (final_in (facts chain) id) (last_deed (facts chain) id) (course_of chain sound id)
 
--- missed exactly where its end has come and no block holds a proof
-missed_from : (done : ℕ) (proved : Bool) (final : Option Terms) (found : Option Deed) → Course (done + 1) done proved final found → (status_in found ≡ status.Missed → (proved ≡ false) × ((terms : Terms) × (final ≡ Some terms) × (terms.end ≤ done))) × ((proved ≡ false) × ((terms : Terms) × (final ≡ Some terms) × (terms.end ≤ done)) → status_in found ≡ status.Missed)
-missed_from done proved final None c = (λ e. cc, λ h. let n = c.1 in let f = h.1.1 in cc)
-missed_from done proved final (Some deed.Block) c = (λ e. cc, λ h. let n = c.1 in let f = h.1.1 in cc)
-missed_from done proved final (Some (deed.Coin output from)) c = (λ e. cc, λ h. let n = c.1 in let f = h.1.1 in cc)
-missed_from done proved final (Some (deed.Fund output)) c = (λ e. cc, λ h. let n = c.1 in let f = h.1.1 in cc)
-missed_from done proved final (Some deed.Spent) c = (λ e. cc, λ h. let n = c.1 in let f = h.1.1 in cc)
-missed_from done proved final (Some (deed.Formed t)) c = (λ e. cc, λ h. absurd (too_late h.1))
+-- no block up to a height holds a proof where none of all does
+unproved_by : (id : List ℕ) (end : ℕ) (blocks : List Block) → is_proved id blocks ≡ false → is_proved id (take end blocks) ≡ false
+unproved_by id zero blocks e = refl
+unproved_by id (suc end) [] e = refl
+unproved_by id (suc end) (block ∷ blocks) e = by (proves_in id block.transactions) (unproved_by id end blocks) e
   where
-    too_late : (terms : Terms) × (final ≡ Some terms) × (terms.end ≤ done) → ⊥
-    too_late (terms, is, ended) =
-        let both : Some t ≡ Some terms = sym c.0 ∙ is in
-        let same : t ≡ terms = cc in
-        let end : t.end ≡ terms.end = ap (λ (x : Terms). x.end) same in
-        let low : done + 1 ≤ t.end = c.1 in
-        omega (arith, end, low, ended)
-missed_from done proved final (Some (deed.Revised t)) c = (λ e. cc, λ h. absurd (too_late h.1))
+    by : (b : Bool) → (is_proved id blocks ≡ false → is_proved id (take end blocks) ≡ false) → (b || is_proved id blocks) ≡ false → (b || is_proved id (take end blocks)) ≡ false
+    by true less e = cc
+    by false less e = less e
+
+-- missed exactly where its end has come and no block up to that one holds a proof
+
+-- its end has come, and no block up to that one holds a proof
+abbrev IsOver : List ℕ → List Block → Option Terms → Type 0
+IsOver id blocks final = (terms : Terms) × (final ≡ Some terms) × (terms.end ≤ length blocks) × (is_proved id (take terms.end blocks) ≡ false)
+
+-- what runs isn't over
+runs_on : (id : List ℕ) (blocks : List Block) (final : Option Terms) (t : Terms) → final ≡ Some t → length blocks + 1 ≤ t.end → IsOver id blocks final → ⊥
+runs_on id blocks final t is low (terms, last, ended, unproved) =
+    let both : Some t ≡ Some terms = sym is ∙ last in
+    let same : t ≡ terms = cc in
+    let end : t.end ≡ terms.end = ap (λ (x : Terms). x.end) same in
+    omega (arith, end, low, ended)
+
+missed_from : (id : List ℕ) (blocks : List Block) (final : Option Terms) (found : Option Deed) → Course (length blocks + 1) (past_of id blocks) (is_proved id blocks) final found → (status_in found ≡ status.Missed → IsOver id blocks final) × (IsOver id blocks final → status_in found ≡ status.Missed)
+missed_from id blocks final None c = (λ e. cc, λ h. let n = c.1 in let f = h.1 in cc)
+missed_from id blocks final (Some deed.Block) c = (λ e. cc, λ h. let n = c.1 in let f = h.1 in cc)
+missed_from id blocks final (Some (deed.Coin output from)) c = (λ e. cc, λ h. let n = c.1 in let f = h.1 in cc)
+missed_from id blocks final (Some (deed.Fund output)) c = (λ e. cc, λ h. let n = c.1 in let f = h.1 in cc)
+missed_from id blocks final (Some deed.Spent) c = (λ e. cc, λ h. let n = c.1 in let f = h.1 in cc)
+missed_from id blocks final (Some (deed.Formed t)) c = (λ e. cc, λ h. absurd (runs_on id blocks final t c.0 c.1 h))
+missed_from id blocks final (Some (deed.Revised t)) c = (λ e. cc, λ h. absurd (runs_on id blocks final t c.0 c.1 h))
+missed_from id blocks final (Some (deed.Settled valid)) (proved, (t, is, passed)) = by valid proved passed
   where
-    too_late : (terms : Terms) × (final ≡ Some terms) × (terms.end ≤ done) → ⊥
-    too_late (terms, is, ended) =
-        let both : Some t ≡ Some terms = sym c.0 ∙ is in
-        let same : t ≡ terms = cc in
-        let end : t.end ≡ terms.end = ap (λ (x : Terms). x.end) same in
-        let low : done + 1 ≤ t.end = c.1 in
-        omega (arith, end, low, ended)
-missed_from done proved final (Some (deed.Settled valid)) c = by valid c.0 c.1.2
-  where
-    by : (v : Bool) → proved ≡ v → (v ≡ false → c.1.0.end ≤ done) → ((if v then status.Valid else status.Missed) ≡ status.Missed → (proved ≡ false) × ((terms : Terms) × (final ≡ Some terms) × (terms.end ≤ done))) × ((proved ≡ false) × ((terms : Terms) × (final ≡ Some terms) × (terms.end ≤ done)) → (if v then status.Valid else status.Missed) ≡ status.Missed)
-    by true is ended = (λ e. cc, λ h. let f = h.0 in cc)
-    by false is ended = (λ e. (is, (c.1.0, c.1.1, ended refl)), λ h. refl)
+    by : (v : Bool) → is_proved id blocks ≡ v → past_of id blocks v t.end ≡ true → ((if v then status.Valid else status.Missed) ≡ status.Missed → IsOver id blocks final) × (IsOver id blocks final → (if v then status.Valid else status.Missed) ≡ status.Missed)
+    by true proved passed = (λ e. cc, λ h. absurd (in_time h))
+      where
+        in_time : IsOver id blocks final → ⊥
+        in_time (terms, last, ended, unproved) =
+            let both : Some t ≡ Some terms = sym is ∙ last in
+            let same : t ≡ terms = cc in
+            let now : is_proved id (take terms.end blocks) ≡ true = ap (λ (x : Terms). is_proved id (take x.end blocks)) (sym same) ∙ passed in
+            let never : true ≡ false = sym now ∙ unproved in
+            cc
+    by false proved passed = (λ e. (t, is, ltb-false (length blocks) t.end (not-true _ passed), unproved_by id t.end blocks proved), λ h. refl)
 
 pub settled_missed : (chain : Chain) → IsSound chain → (id : List ℕ) → (status_of chain id ≡ status.Missed) ↔ EndedUnproved chain id
-settled_missed chain sound id = missed_from (height chain) (is_proved id chain.blocks) (final_in (facts chain) id) (last_deed (facts chain) id) (course_of chain sound id)
+settled_missed chain sound id = missed_from id chain.blocks (final_in (facts chain) id) (last_deed (facts chain) id) (course_of chain sound id)

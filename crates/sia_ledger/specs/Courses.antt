@@ -1,6 +1,6 @@
 -- How file contracts come to their end: by a storage proof inside their window, or else at its end (Sia whitepaper; siad's
 -- doc/Consensus.md).
-use Rattle.std.specs.Prelude.{◌≡◌, ◌≢◌, ℕ, ◌+◌, ◌≤◌, Bool, true, false, List, [], ◌∷◌, Option, Some, None, if◌then◌else◌}
+use Rattle.std.specs.Prelude.{◌≡◌, ◌≢◌, ℕ, ◌+◌, ◌≤◌, Bool, true, false, List, [], ◌∷◌, take, Option, Some, None, if◌then◌else◌}
 use Rattle.std.specs.Option.{option_or}
 use Rattle.std.specs.List.{list_any, sum_by}
 use Rattle.std.specs.Str.{bytes_eq}
@@ -53,13 +53,10 @@ abbrev pub final_in : List Fact → List ℕ → Option Terms
 final_in [] contract = None
 final_in (x ∷ rest) contract = option_or (final_in rest contract) (if bytes_eq x.id contract then terms_in (Some x.deed) else None)
 
--- the chain has the block at which a contract ends, by its last terms
-abbrev pub HasEnded : Chain → List ℕ → Type 0
-HasEnded chain contract = (terms : Terms) × (final_in (facts chain) contract ≡ Some terms) × (terms.end ≤ height chain)
-
--- the chain has the block at which a contract ends, and no block holds a storage proof for it
+-- the chain has the block at which a contract ends, by its last terms, and no block up to that one holds a storage proof for it
 abbrev pub EndedUnproved : Chain → List ℕ → Type 0
-EndedUnproved chain contract = (is_proved contract chain.blocks ≡ false) × HasEnded chain contract
+EndedUnproved chain contract =
+    (terms : Terms) × (final_in (facts chain) contract ≡ Some terms) × (terms.end ≤ height chain) × (is_proved contract (take terms.end chain.blocks) ≡ false)
 
 -- A storage proof, on what is known before its transaction, is for a running contract, inside the window of its present terms, and
 -- correct where these store something.

@@ -18,3 +18,4 @@ pub mod Texts
 pub mod Claiming
 pub mod Judging
 pub mod Registered
+pub mod Making

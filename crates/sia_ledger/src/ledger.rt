@@ -229,7 +229,7 @@ impl Ledger {
     }
 
     /// How the contract with this identifier stands: valid exactly where a block of the chain holds a storage proof for it, and
-    /// missed exactly where the chain has the block of its end and no block holds one.
+    /// missed exactly where the chain has the block of its end and no block up to that one holds one.
     pub fn status(&self, contract: &Hash) -> Status
         ensures exact { result ≡ status_of self.now contract.now }
         ensures valid { (result ≡ status.Valid) ↔ HoldsProof self.now contract.now }
@@ -251,6 +251,13 @@ impl Ledger {
         ensures { IfOk result (λ coins. coins ≡ coins_at self.now address.now) }
     {
         owned_by(alloc, address, self.base().register().as_slice())
+    }
+
+    /// What holds of each chain that a ledger stands for.
+    pub(crate) fn know(&self)
+        ensures { IsSound self.now }
+    {
+        let _maturity = self.maturity;
     }
 
     // What is kept of the chain.

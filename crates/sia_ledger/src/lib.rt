@@ -24,8 +24,8 @@
 //! - [`Ledger::sums`], [`Ledger::height`], [`Ledger::tip`], [`Ledger::block_at`], [`Ledger::status`], [`Ledger::terms`] and
 //!   [`Ledger::coins`] are those of the present chain. What is live, in escrow and unclaimed together is what was issued.
 //! - [`Ledger::status`] is valid exactly where a block of the chain holds a storage proof for the contract, and missed exactly
-//!   where the chain has the block of its end and none holds one. Each storage proof of the chain is inside the window of its
-//!   contract's terms and, where they store something, correct. No contract is settled twice
+//!   where the chain has the block of its end and no block up to that one holds one. Each storage proof of the chain is inside
+//!   the window of its contract's terms and, where they store something, correct. No contract is settled twice
 //!   ([`laws::contracts_are_settled_once`]).
 //! - [`Ledger::check_block`] and [`Ledger::apply`] count one step each, [`Ledger::revert`] none.
 //!
