@@ -10,7 +10,7 @@ use Rattle.sia_ledger.specs.declared.fact.Deed.TheVariants as deed
 use Rattle.sia_ledger.specs.declared.register.Link.{Link}
 use Rattle.sia_ledger.specs.Claiming.{shares_in, all_shares}
 use Rattle.sia_ledger.specs.Facts.{claim_at, funds_of, is_known, share}
-use Rattle.sia_ledger.specs.Registered.{last_from, last_place, link, links_from, worth}
+use Rattle.sia_ledger.specs.Registered.{last_from, last_place, link, links_from, last_counts}
 use Rattle.sia_ledger.proofs.Held.{or_true, unknown}
 use Rattle.sia_ledger.proofs.Moves.{claimless}
 use Rattle.sia_ledger.proofs.Registering.{is_last, placed, none_some, some_is}
@@ -26,7 +26,7 @@ pub claims_none : (facts behind : List Fact) (id : List ℕ) → last_place fact
 claims_none facts behind id none new =
     let before : is_known facts id ≡ false = sym (placed 0 facts id) ∙ ap is_some none in
     let all : is_known (facts ++ behind) id ≡ false = known_append facts behind id ∙ ap (λ b. b || is_known behind id) before ∙ new in
-    sym (claimless (facts ++ behind) id (ap (worth funds_of) (unknown (facts ++ behind) id all)))
+    sym (claimless (facts ++ behind) id (ap (last_counts funds_of) (unknown (facts ++ behind) id all)))
 
 -- what a fact claims of the ones behind it
 abbrev Claims : List Fact → List Fact → List ℕ → ℕ → Type 0

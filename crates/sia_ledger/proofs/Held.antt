@@ -10,7 +10,7 @@ use Rattle.std.proofs.lemmas.List.{drop_more}
 use Rattle.std.proofs.lemmas.List.Sums.{sum_by-cons}
 use Rattle.sia_ledger.specs.Facts.{fact, is_known, last_deed, standing}
 use Rattle.sia_ledger.specs.Holdings.{held}
-use Rattle.sia_ledger.specs.Registered.{worth}
+use Rattle.sia_ledger.specs.Registered.{last_counts}
 use Rattle.sia_ledger.specs.declared.fact.Deed.{Deed}
 use Rattle.sia_ledger.specs.declared.fact.Fact.{Fact}
 use Rattle.std.specs.Str.{bytes_eq}
@@ -91,37 +91,37 @@ unfolding held
 held-nil value = refl
 
 -- one fact more adds what it counts, and takes away what the last one on its identifier counted
-pub held-push : (value : Deed → ℕ) (facts : List Fact) (x : Fact) → held value (facts ++ x ∷ []) + worth value (last_deed facts x.id) ≡ held value facts + value x.deed
+pub held-push : (value : Deed → ℕ) (facts : List Fact) (x : Fact) → held value (facts ++ x ∷ []) + last_counts value (last_deed facts x.id) ≡ held value facts + value x.deed
 held-push value [] x = omega (arith, held-cons value x [], held-nil value)
 held-push value (fact ∷ rest) x = by (held-push value rest x) (bytes_eq fact.id x.id) refl (is_known rest fact.id) refl
   where
     new : held value (fact ∷ (rest ++ x ∷ [])) ≡ (if is_known rest fact.id || bytes_eq x.id fact.id then 0 else value fact.deed) + held value (rest ++ x ∷ [])
     new = held-cons value fact (rest ++ x ∷ []) ∙ ap (λ b. (if b then 0 else value fact.deed) + held value (rest ++ x ∷ [])) (known-push rest x fact.id)
 
-    by : held value (rest ++ x ∷ []) + worth value (last_deed rest x.id) ≡ held value rest + value x.deed → (b : Bool) → bytes_eq fact.id x.id ≡ b → (k : Bool) → is_known rest fact.id ≡ k → held value (fact ∷ (rest ++ x ∷ [])) + worth value (option_or (last_deed rest x.id) (if bytes_eq fact.id x.id then Some fact.deed else None)) ≡ held value (fact ∷ rest) + value x.deed
+    by : held value (rest ++ x ∷ []) + last_counts value (last_deed rest x.id) ≡ held value rest + value x.deed → (b : Bool) → bytes_eq fact.id x.id ≡ b → (k : Bool) → is_known rest fact.id ≡ k → held value (fact ∷ (rest ++ x ∷ [])) + last_counts value (option_or (last_deed rest x.id) (if bytes_eq fact.id x.id then Some fact.deed else None)) ≡ held value (fact ∷ rest) + value x.deed
     by IH true same true known =
         let e : fact.id ≡ x.id = same_text fact.id x.id (sym same) in
         let there = known-some rest x.id (ap (is_known rest) (sym e) ∙ known) in
-        let last : worth value (option_or (last_deed rest x.id) (if bytes_eq fact.id x.id then Some fact.deed else None)) ≡ worth value (last_deed rest x.id) = rw (there.1) refl in
+        let last : last_counts value (option_or (last_deed rest x.id) (if bytes_eq fact.id x.id then Some fact.deed else None)) ≡ last_counts value (last_deed rest x.id) = rw (there.1) refl in
         let old : held value (fact ∷ rest) ≡ 0 + held value rest = held-cons value fact rest ∙ ap (λ b. (if b then 0 else value fact.deed) + held value rest) known in
         let now : held value (fact ∷ (rest ++ x ∷ [])) ≡ 0 + held value (rest ++ x ∷ []) = new ∙ ap (λ b. (if b || bytes_eq x.id fact.id then 0 else value fact.deed) + held value (rest ++ x ∷ [])) known in
         omega (arith, IH, last, old, now)
     by IH true same false known =
         let e : fact.id ≡ x.id = same_text fact.id x.id (sym same) in
         let none : last_deed rest x.id ≡ None = unknown rest x.id (ap (is_known rest) (sym e) ∙ known) in
-        let last : worth value (option_or (last_deed rest x.id) (if bytes_eq fact.id x.id then Some fact.deed else None)) ≡ value fact.deed = rw (none, same) refl in
-        let before : worth value (last_deed rest x.id) ≡ 0 = rw none refl in
+        let last : last_counts value (option_or (last_deed rest x.id) (if bytes_eq fact.id x.id then Some fact.deed else None)) ≡ value fact.deed = rw (none, same) refl in
+        let before : last_counts value (last_deed rest x.id) ≡ 0 = rw none refl in
         let old : held value (fact ∷ rest) ≡ value fact.deed + held value rest = held-cons value fact rest ∙ ap (λ b. (if b then 0 else value fact.deed) + held value rest) known in
         let turned : bytes_eq x.id fact.id ≡ true = same-sym x.id fact.id ∙ same in
         let now : held value (fact ∷ (rest ++ x ∷ [])) ≡ 0 + held value (rest ++ x ∷ []) = new ∙ ap (λ b. (if is_known rest fact.id || b then 0 else value fact.deed) + held value (rest ++ x ∷ [])) turned ∙ ap (λ b. (if b then 0 else value fact.deed) + held value (rest ++ x ∷ [])) (or_true (is_known rest fact.id)) in
         omega (arith, IH, last, before, old, now)
     by IH false same k known =
-        let last : worth value (option_or (last_deed rest x.id) (if bytes_eq fact.id x.id then Some fact.deed else None)) ≡ worth value (last_deed rest x.id) = ap (λ b. worth value (option_or (last_deed rest x.id) (if b then Some fact.deed else None))) same ∙ or_none (last_deed rest x.id) in
+        let last : last_counts value (option_or (last_deed rest x.id) (if bytes_eq fact.id x.id then Some fact.deed else None)) ≡ last_counts value (last_deed rest x.id) = ap (λ b. last_counts value (option_or (last_deed rest x.id) (if b then Some fact.deed else None))) same ∙ or_none (last_deed rest x.id) in
         let turned : bytes_eq x.id fact.id ≡ false = same-sym x.id fact.id ∙ same in
         let now : held value (fact ∷ (rest ++ x ∷ [])) ≡ (if is_known rest fact.id then 0 else value fact.deed) + held value (rest ++ x ∷ []) = new ∙ ap (λ b. (if is_known rest fact.id || b then 0 else value fact.deed) + held value (rest ++ x ∷ [])) turned ∙ ap (λ b. (if b then 0 else value fact.deed) + held value (rest ++ x ∷ [])) (or_false (is_known rest fact.id)) in
         omega (arith, IH, last, held-cons value fact rest, now)
       where
-        or_none : (found : Option Deed) → worth value (option_or found None) ≡ worth value found
+        or_none : (found : Option Deed) → last_counts value (option_or found None) ≡ last_counts value found
         or_none None = refl
         or_none (Some what) = refl
 

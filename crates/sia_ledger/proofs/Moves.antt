@@ -14,7 +14,7 @@ use Rattle.sia_types.specs.declared.coins.CoinOutput.{CoinOutput}
 use Rattle.sia_types.specs.declared.funds.FundOutput.{FundOutput}
 use Rattle.sia_types.specs.declared.terms.Terms.{Terms}
 use Rattle.std.specs.Str.{bytes_eq}
-use Rattle.sia_ledger.specs.Registered.{worth}
+use Rattle.sia_ledger.specs.Registered.{last_counts}
 use Rattle.sia_ledger.proofs.Held.{held-push, known-some, unknown}
 use Rattle.sia_ledger.proofs.Claims.{unclaimed-push, unclaimed-more}
 
@@ -44,7 +44,7 @@ pub and_most : (a b c : List Fact) (g l f k g' l' f' k' : ℕ) → Most a b g l 
 and_most a b c g l f k g' l' f' k' one two = record { holds = omega (arith, one.holds, two.holds); funds = omega (arith, one.funds, two.funds) }
 
 -- what isn't a siafund output claims nothing
-pub claimless : (facts : List Fact) (id : List ℕ) → worth funds_of (last_deed facts id) ≡ 0 → claim_at facts id ≡ 0
+pub claimless : (facts : List Fact) (id : List ℕ) → last_counts funds_of (last_deed facts id) ≡ 0 → claim_at facts id ≡ 0
 claimless [] id e = refl
 claimless (fact ∷ rest) id e = by (is_known rest id) refl (claimless rest id)
   where
@@ -53,22 +53,22 @@ claimless (fact ∷ rest) id e = by (is_known rest id) refl (claimless rest id)
         let e : n * taxes rest ≡ 0 = ap (λ m. m * taxes rest) z ∙ omega arith in
         ap (λ m. m / 10000) e
 
-    of_same : (b : Bool) → worth funds_of (if b then Some fact.deed else None) ≡ 0 → (if b then share fact.deed rest else 0) ≡ 0
+    of_same : (b : Bool) → last_counts funds_of (if b then Some fact.deed else None) ≡ 0 → (if b then share fact.deed rest else 0) ≡ 0
     of_same true z = nothing (funds_of fact.deed) z
     of_same false z = refl
 
-    by : (k : Bool) → is_known rest id ≡ k → (worth funds_of (last_deed rest id) ≡ 0 → claim_at rest id ≡ 0) → (if k then claim_at rest id else if bytes_eq fact.id id then share fact.deed rest else 0) ≡ 0
+    by : (k : Bool) → is_known rest id ≡ k → (last_counts funds_of (last_deed rest id) ≡ 0 → claim_at rest id ≡ 0) → (if k then claim_at rest id else if bytes_eq fact.id id then share fact.deed rest else 0) ≡ 0
     by true k later =
         let there = known-some rest id k in
         let same : option_or (last_deed rest id) (if bytes_eq fact.id id then Some fact.deed else None) ≡ last_deed rest id = rw there.1 refl in
-        later (ap (worth funds_of) (sym same) ∙ e)
+        later (ap (last_counts funds_of) (sym same) ∙ e)
     by false k later =
         let none = unknown rest id k in
         let same : option_or (last_deed rest id) (if bytes_eq fact.id id then Some fact.deed else None) ≡ (if bytes_eq fact.id id then Some fact.deed else None) = rw none refl in
-        of_same (bytes_eq fact.id id) (ap (worth funds_of) (sym same) ∙ e)
+        of_same (bytes_eq fact.id id) (ap (last_counts funds_of) (sym same) ∙ e)
 
 -- a fact without a tax
-pub push : (facts : List Fact) (x : Fact) → tax_of x.deed ≡ 0 → Moves facts (facts ++ x ∷ []) (coins_of x.deed + held_by x.deed) (worth coins_of (last_deed facts x.id) + worth held_by (last_deed facts x.id) + claim_at facts x.id) (funds_of x.deed) (worth funds_of (last_deed facts x.id))
+pub push : (facts : List Fact) (x : Fact) → tax_of x.deed ≡ 0 → Moves facts (facts ++ x ∷ []) (coins_of x.deed + held_by x.deed) (last_counts coins_of (last_deed facts x.id) + last_counts held_by (last_deed facts x.id) + claim_at facts x.id) (funds_of x.deed) (last_counts funds_of (last_deed facts x.id))
 push facts x untaxed =
     let coins = held-push coins_of facts x in
     let contracts = held-push held_by facts x in
@@ -79,9 +79,9 @@ push facts x untaxed =
 pub push_new : (facts : List Fact) (x : Fact) → tax_of x.deed ≡ 0 → is_known facts x.id ≡ false → Moves facts (facts ++ x ∷ []) (coins_of x.deed + held_by x.deed) 0 (funds_of x.deed) 0
 push_new facts x untaxed new =
     let none = unknown facts x.id new in
-    let coins : worth coins_of (last_deed facts x.id) ≡ 0 = ap (worth coins_of) none in
-    let contracts : worth held_by (last_deed facts x.id) ≡ 0 = ap (worth held_by) none in
-    let funds : worth funds_of (last_deed facts x.id) ≡ 0 = ap (worth funds_of) none in
+    let coins : last_counts coins_of (last_deed facts x.id) ≡ 0 = ap (last_counts coins_of) none in
+    let contracts : last_counts held_by (last_deed facts x.id) ≡ 0 = ap (last_counts held_by) none in
+    let funds : last_counts funds_of (last_deed facts x.id) ≡ 0 = ap (last_counts funds_of) none in
     exactly facts (facts ++ x ∷ []) _ _ _ _ _ _ _ _ (push facts x untaxed) refl (omega (arith, coins, contracts, claimless facts x.id funds)) refl funds
 
 pub tax-le : (payout : ℕ) → tax payout ≤ payout
@@ -98,9 +98,9 @@ unfolding tax
 formation facts id terms new =
     let x = fact id (deed.Formed terms) in
     let none = unknown facts id new in
-    let coins_last : worth coins_of (last_deed facts id) ≡ 0 = ap (worth coins_of) none in
-    let contracts_last : worth held_by (last_deed facts id) ≡ 0 = ap (worth held_by) none in
-    let funds_last : worth funds_of (last_deed facts id) ≡ 0 = ap (worth funds_of) none in
+    let coins_last : last_counts coins_of (last_deed facts id) ≡ 0 = ap (last_counts coins_of) none in
+    let contracts_last : last_counts held_by (last_deed facts id) ≡ 0 = ap (last_counts held_by) none in
+    let funds_last : last_counts funds_of (last_deed facts id) ≡ 0 = ap (last_counts funds_of) none in
     let coins = held-push coins_of facts x in
     let contracts = held-push held_by facts x in
     let funds = held-push funds_of facts x in
@@ -126,20 +126,20 @@ push_formed_most facts id terms new low =
 
 pub spend_coin : (facts : List Fact) (id : List ℕ) (output : CoinOutput) (from : ℕ) → last_deed facts id ≡ Some (deed.Coin output from) → Moves facts (facts ++ fact id deed.Spent ∷ []) 0 output.value 0 0
 spend_coin facts id output from last =
-    let coins : worth coins_of (last_deed facts id) ≡ output.value = ap (worth coins_of) last in
-    let contracts : worth held_by (last_deed facts id) ≡ 0 = ap (worth held_by) last in
-    let funds : worth funds_of (last_deed facts id) ≡ 0 = ap (worth funds_of) last in
+    let coins : last_counts coins_of (last_deed facts id) ≡ output.value = ap (last_counts coins_of) last in
+    let contracts : last_counts held_by (last_deed facts id) ≡ 0 = ap (last_counts held_by) last in
+    let funds : last_counts funds_of (last_deed facts id) ≡ 0 = ap (last_counts funds_of) last in
     exactly facts _ _ _ _ _ _ _ _ _ (push facts (fact id deed.Spent) refl) refl (omega (arith, coins, contracts, claimless facts id funds)) refl funds
 
 pub spend_fund : (facts : List Fact) (id : List ℕ) (output : FundOutput) → last_deed facts id ≡ Some (deed.Fund output) → Moves facts (facts ++ fact id deed.Spent ∷ []) 0 (claim_at facts id) 0 output.value
 spend_fund facts id output last =
-    let coins : worth coins_of (last_deed facts id) ≡ 0 = ap (worth coins_of) last in
-    let contracts : worth held_by (last_deed facts id) ≡ 0 = ap (worth held_by) last in
-    let funds : worth funds_of (last_deed facts id) ≡ output.value = ap (worth funds_of) last in
+    let coins : last_counts coins_of (last_deed facts id) ≡ 0 = ap (last_counts coins_of) last in
+    let contracts : last_counts held_by (last_deed facts id) ≡ 0 = ap (last_counts held_by) last in
+    let funds : last_counts funds_of (last_deed facts id) ≡ output.value = ap (last_counts funds_of) last in
     exactly facts _ _ _ _ _ _ _ _ _ (push facts (fact id deed.Spent) refl) refl (omega (arith, coins, contracts)) refl funds
 
 -- the last deed on a running contract
-pub running : (found : Option Deed) (terms : Terms) → terms_in found ≡ Some terms → (worth coins_of found ≡ 0) × (worth held_by found ≡ after_tax terms.payout) × (worth funds_of found ≡ 0)
+pub running : (found : Option Deed) (terms : Terms) → terms_in found ≡ Some terms → (last_counts coins_of found ≡ 0) × (last_counts held_by found ≡ after_tax terms.payout) × (last_counts funds_of found ≡ 0)
 running None terms e = cc
 running (Some deed.Block) terms e = cc
 running (Some (deed.Coin output from)) terms e = cc

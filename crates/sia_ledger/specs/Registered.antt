@@ -33,9 +33,9 @@ unfoldable pub running : List Fact → Running
 running facts = record { outputs = outputs facts % 2 ^ 128; escrow = escrow facts % 2 ^ 128; shares = all_shares facts % 2 ^ 128 }
 
 -- what the last deed on an identifier counts
-abbrev pub worth : (Deed → ℕ) → Option Deed → ℕ
-worth value None = 0
-worth value (Some what) = value what
+abbrev pub last_counts : (Deed → ℕ) → Option Deed → ℕ
+last_counts value None = 0
+last_counts value (Some what) = value what
 
 module _ {S : Type 0} where
   -- the map finds the last fact about each identifier

@@ -3,7 +3,7 @@ ghost use Rattle.std.specs.Prelude.{◌≡◌, ℕ, ◌+◌, ◌%◌, ◌^◌, �
 ghost use Rattle.sia_ledger.specs.declared.fact.Fact.{Fact as Entry};
 ghost use Rattle.sia_ledger.specs.Facts.{last_deed};
 ghost use Rattle.sia_ledger.specs.Holdings.{coins_of, held_by};
-ghost use Rattle.sia_ledger.specs.Registered.{running, worth};
+ghost use Rattle.sia_ledger.specs.Registered.{running, last_counts};
 
 use crate::claiming::shares_by;
 use crate::fact::Deed;
@@ -61,7 +61,7 @@ fn moved(sum: u128, gone: u128, come: u128) -> u128
 
 // The value of a siacoin output, where a deed is the last one about its identifier.
 fn last_coins(before: Option<&Deed>) -> u128
-    ensures { result ≡ worth coins_of (option_copied before.entry) }
+    ensures { result ≡ last_counts coins_of (option_copied before.entry) }
 {
     match before {
         Some(deed) => coins(deed),
@@ -71,7 +71,7 @@ fn last_coins(before: Option<&Deed>) -> u128
 
 // What a running contract holds, where a deed is the last one about its identifier.
 fn last_held(before: Option<&Deed>) -> u128
-    ensures { result ≡ worth held_by (option_copied before.entry) }
+    ensures { result ≡ last_counts held_by (option_copied before.entry) }
 {
     match before {
         Some(deed) => held(deed),
