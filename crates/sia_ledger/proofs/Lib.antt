@@ -27,6 +27,7 @@ pub mod Ordered
 pub mod OtherFaults
 pub mod Outcomes
 pub mod Registering
+pub mod Resting
 pub mod Right
 pub mod RunningSums
 pub mod Shares

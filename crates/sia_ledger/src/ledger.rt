@@ -14,11 +14,12 @@ ghost use Rattle.sia_ledger.specs.Blocks.{done_by, facts, state_of, with_block};
 ghost use Rattle.sia_ledger.specs.Bounded.{IsBounded, Totals};
 ghost use Rattle.sia_ledger.specs.Chain.{begun, extended, height, shortened};
 ghost use Rattle.sia_ledger.specs.Genesis.{genesis_refusal};
-ghost use Rattle.sia_ledger.specs.Holdings.{coins_at, id_at, ids, status_of, sums_of, terms_of, tip};
+ghost use Rattle.sia_ledger.specs.Holdings.{coins_at, id_at, ids, immature, status_of, sums_of, terms_of, tip};
 ghost use Rattle.sia_ledger.specs.Refusal.{refusal, set_refusal};
 ghost use Rattle.sia_ledger.specs.State.{next};
 
 use crate::base::Base;
+use crate::fact::Fact;
 use crate::fault::{GenesisFault, RevertFault};
 use crate::genesis::{check_params, make_genesis};
 use crate::holdings::{issued_at, sum_of_immature};
@@ -198,7 +199,7 @@ impl Ledger {
         Sums {
             height,
             outputs,
-            immature: sum_of_immature(height + 1, register.as_slice()),
+            immature: sum_of_immature(height + 1, self.young()),
             escrow,
             pool: register.pool(),
             unclaimed: issued - outputs - escrow,
@@ -258,6 +259,17 @@ impl Ledger {
         ensures { IsSound self.now }
     {
         let _maturity = self.maturity;
+    }
+
+    // The facts of the last blocks, with all outputs that can't be spent at the next height.
+    fn young(&self) -> &[Fact]
+        ensures { immature (height self.now + 1) result.now ≡ immature (height self.now + 1) (facts self.now) }
+    {
+        let first = self.ids.len().saturating_sub(self.maturity as usize);
+        match self.marks.as_slice().get(first) {
+            None => &[],
+            Some(mark) => self.register.as_slice().split_at(*mark as usize).1,
+        }
     }
 
     // What is kept of the chain.
