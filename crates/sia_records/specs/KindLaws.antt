@@ -1,0 +1,35 @@
+-- Kinds and their bytes find each other. No public clause speaks of these lemmas but by the law of kinds; they stand here since
+-- the law of a host's records is made of it.
+use Rattle.std.proofs.Common.{◌≡◌, ℕ, Bool, true, false, List, [], ◌∷◌, find, bytes_eq, cond, Some, refl}
+use Rattle.std.proofs.lemmas.Slice.Eq.{bytes_eq-Decides}
+use Rattle.sia_encoding.specs.Codec.{Lawful}
+use Rattle.sia_encoding.specs.CodecLaws.{fixed_law}
+use Rattle.sia_encoding.specs.RecordLaws.{named_law}
+use Rattle.sia_records.specs.declared.kind.Kind.{Kind}
+use Rattle.sia_records.specs.declared.kind.Kind.TheVariants as kind
+use Rattle.sia_records.specs.Kinds.{kind_text, kind_of, every_kind, kinds}
+
+-- the byte of a kind finds it
+pub kind_found : (k : Kind) → kind_of (kind_text k) ≡ Some k
+kind_found kind.Block = refl
+kind_found kind.Revert = refl
+kind_found kind.Formed = refl
+kind_found kind.Revised = refl
+kind_found kind.Renewed = refl
+
+-- what is found passes
+found_passes : {X : Type 0} (p : X → Bool) (xs : List X) (x : X) → find p xs ≡ Some x → p x ≡ true
+found_passes {X} p [] x is = cc
+found_passes {X} p (y ∷ ys) x is = here (p y) refl is (λ later. found_passes p ys x later)
+  where
+    here : (b : Bool) → p y ≡ b → cond b (Some y) (find p ys) ≡ Some x → (find p ys ≡ Some x → p x ≡ true) → p x ≡ true
+    here true passes is others = let same : y ≡ x = cc in rw (← same) passes
+    here false fails is others = others is
+
+-- a kind that is found has the byte
+pub kind_named : (text : List ℕ) (k : Kind) → kind_of text ≡ Some k → kind_text k ≡ text
+kind_named text k is = (bytes_eq-Decides (kind_text k) text).0 (found_passes (λ l. bytes_eq (kind_text l) text) every_kind k is)
+
+-- what is read as a kind is spelled so, and what is spelled so is read
+pub kinds_law : Lawful kinds
+kinds_law = named_law kind_text kind_of kind_found kind_named (fixed_law 1)

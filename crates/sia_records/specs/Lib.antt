@@ -1,0 +1,12 @@
+pub mod Changes
+pub mod ChangeLaws
+pub mod Kinds
+pub mod KindLaws
+pub mod HostRecords
+pub mod HostRecordLaws
+pub mod Fitting
+pub mod Writes
+pub mod Reads
+pub mod Stored
+pub mod Fetched
+pub mod Making

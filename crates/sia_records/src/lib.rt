@@ -1,0 +1,16 @@
+//! wip
+#![tactic(auto)]
+
+mod change;
+mod fetched;
+mod fitting;
+mod host_record;
+mod kind;
+mod making;
+mod update;
+mod write;
+
+pub use change::Change;
+pub use fitting::{actions_fit, range_fits, sections_fit};
+pub use host_record::HostRecord;
+pub use write::{PreparedWrite, prepare_write};
