@@ -1,1 +1,3 @@
 pub mod Makings
+pub mod Parts
+pub mod Preparing

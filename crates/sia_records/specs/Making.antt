@@ -1,10 +1,13 @@
--- What a prepared write keeps beside the request. No public clause speaks of it.
+-- What prepared writes and reads keep beside their requests. No public clause speaks of it.
 use Rattle.std.specs.Prelude.{ℕ, ◌≡◌, nat_eq, Bool, true, false, ◌&&◌, List, [], ◌∷◌, ◌++◌, length, map, Option, Some, None}
 use Rattle.std.specs.List.{flat_map}
 use Rattle.sia_rhp.specs.declared.action.Action.{Action}
 use Rattle.sia_rhp.specs.declared.action.Action.TheVariants as actions
 use Rattle.sia_records.specs.declared.making.Made.{Made}
+use Rattle.sia_rhp.specs.declared.answer_bodies.Part.{Part}
+use Rattle.sia_rhp.specs.declared.request_bodies.Section.{Section}
 use Rattle.sia_records.specs.Fitting.{range_fits}
+use Rattle.sia_records.specs.Reads.{are_served, parts}
 use Rattle.sia_records.specs.Writes.{Applied, applied, taken_by, left_behind, updated, step_by, proof_by}
 
 -- the sector after an action, if it is an update
@@ -42,7 +45,25 @@ abbrev pub IsMade : List Action → List (List ℕ) → Option Made → Type 0
 IsMade steps fetched None = are_given steps fetched ≡ false
 IsMade steps fetched (Some made) = (are_given steps fetched ≡ true) × Makes (applied steps fetched) made
 
+-- the new sectors of actions, where the updated ones are given in order
+unfoldable pub merged : List Action → List (List ℕ) → List (List ℕ)
+merged [] changed = []
+merged (actions.Append bytes ∷ others) changed = bytes ∷ merged others changed
+merged (actions.Update place offset bytes ∷ others) [] = merged others []
+merged (actions.Update place offset bytes ∷ others) (sector ∷ changed) = sector ∷ merged others changed
+merged (_ ∷ others) changed = merged others changed
+
 -- What is made of a write as far as its actions were done: those that are left take the sectors that are left.
 pub record MakesSoFar (steps left : List Action) (fetched rest : List (List ℕ)) (made : Made) : Type 0 where
   pub done : (front : List Applied) × (applied steps fetched ≡ front ++ applied left rest) × Makes front made
   pub given : are_given steps fetched ≡ are_given left rest
+
+-- What is made of a read: nothing where a section has no sector in which its range is fit, or a sector is left.
+abbrev pub ArePartsMade : List Section → List (List ℕ) → Option (List Part) → Type 0
+ArePartsMade sections fetched None = are_served sections fetched ≡ false
+ArePartsMade sections fetched (Some made) = (are_served sections fetched ≡ true) × (made ≡ parts sections fetched)
+
+-- What is made of a read as far as its sections were served: those that are left take the sectors that are left.
+pub record PartsSoFar (sections left : List Section) (fetched rest : List (List ℕ)) (made : List Part) : Type 0 where
+  pub done : parts sections fetched ≡ made ++ parts left rest
+  pub served : are_served sections fetched ≡ are_served left rest

@@ -1,5 +1,5 @@
 -- The sectors of a contract as a host keeps them, and what changes do to them (RHP2's write actions).
-use Rattle.std.specs.Prelude.{ℕ, ◌-◌, List, [], ◌∷◌, ◌++◌, length, take, drop, slice_set, slice_index_or}
+use Rattle.std.specs.Prelude.{ℕ, ◌-◌, Bool, true, false, if◌then◌else◌, List, [], ◌∷◌, ◌++◌, length, take, drop, slice_set, slice_index_or}
 use Rattle.sia_diff.specs.declared.steps.DiffStep.{DiffStep}
 use Rattle.sia_diff.specs.declared.steps.DiffStep.TheVariants as step
 use Rattle.sia_records.specs.declared.change.Change.{Change}
@@ -33,10 +33,24 @@ step_of (changes.Trim fewer) = step.Trim fewer
 step_of (changes.Swap one other) = step.Swap one other
 step_of (changes.Set place root slot) = step.Set place root
 
--- The changes that steps are, where each new sector lies in the next of these slots. Without a slot left it lies in the slot 0.
+-- whether a step brings a new sector
+abbrev pub brings_sector : DiffStep → Bool
+brings_sector (step.Append root) = true
+brings_sector (step.Set place root) = true
+brings_sector _ = false
+
+-- the change that a step is, where a new sector lies in the first of these slots
+abbrev pub change_by : DiffStep → List ℕ → Change
+change_by (step.Append root) slots = changes.Append root (slice_index_or slots 0 0)
+change_by (step.Trim fewer) slots = changes.Trim fewer
+change_by (step.Swap one other) slots = changes.Swap one other
+change_by (step.Set place root) slots = changes.Set place root (slice_index_or slots 0 0)
+
+-- the slots that are left behind it
+abbrev pub slots_behind : DiffStep → List ℕ → List ℕ
+slots_behind one slots = if brings_sector one then drop 1 slots else slots
+
+-- the changes that steps are, where each new sector lies in the next of these slots
 unfoldable pub changes_of : List DiffStep → List ℕ → List Change
 changes_of [] slots = []
-changes_of (step.Append root ∷ steps) slots = changes.Append root (slice_index_or slots 0 0) ∷ changes_of steps (drop 1 slots)
-changes_of (step.Trim fewer ∷ steps) slots = changes.Trim fewer ∷ changes_of steps slots
-changes_of (step.Swap one other ∷ steps) slots = changes.Swap one other ∷ changes_of steps slots
-changes_of (step.Set place root ∷ steps) slots = changes.Set place root (slice_index_or slots 0 0) ∷ changes_of steps (drop 1 slots)
+changes_of (one ∷ others) slots = change_by one slots ∷ changes_of others (slots_behind one slots)

@@ -31,19 +31,33 @@ fn action_fits(sector: u64, action: &Action) -> bool
     }
 }
 
+/// Whether each action is fit in itself.
+fn each_action_fits(sector: u64, actions: &[Action]) -> bool
+    ensures { result ≡ list_all (fits_action sector) actions.now }
+{
+    actions.iter().all(|action| action_fits(sector, action))
+}
+
 /// Whether the actions of a write are fit in themselves, in sectors of so many bytes: at most 16, each appended sector whole and
 /// each updated range fit.
 pub fn actions_fit(sector: u64, actions: &[Action]) -> bool
     ensures { result ≡ fit_actions sector actions.now }
 {
-    actions.len() as u64 <= ACTIONS && actions.iter().all(|action| action_fits(sector, action))
+    actions.len() as u64 <= ACTIONS && each_action_fits(sector, actions)
 }
 
 /// Whether a section is a range that is fit, in sectors of so many bytes.
-fn section_fits(sector: u64, section: &Section) -> bool
+pub(crate) fn section_fits(sector: u64, section: &Section) -> bool
     ensures { result ≡ fits_section sector section.now }
 {
     range_fits(sector, section.offset, section.length)
+}
+
+/// Whether each section is a range that is fit.
+fn each_section_fits(sector: u64, sections: &[Section]) -> bool
+    ensures { result ≡ list_all (fits_section sector) sections.now }
+{
+    sections.iter().all(|section| section_fits(sector, section))
 }
 
 /// How many bytes so few sections have together.
@@ -65,6 +79,6 @@ pub fn sections_fit(sector: u64, sections: &[Section]) -> bool
 {
     !sections.is_empty()
         && sections.len() as u64 <= ACTIONS
-        && sections.iter().all(|section| section_fits(sector, section))
+        && each_section_fits(sector, sections)
         && section_bytes(sections) <= 4 * sector as u128
 }

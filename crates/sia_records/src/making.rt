@@ -6,7 +6,7 @@ ghost use Rattle.sia_records.specs.Making.{IsMade, Adds};
 use crate::fitting::range_fits;
 use crate::update::update;
 use sia_diff::DiffStep;
-use sia_encoding::{Blob, List};
+use sia_encoding::{Blob, Item, List};
 use sia_merkle::root;
 use sia_rhp::Action;
 use sia_types::UpdateProof;
@@ -19,6 +19,19 @@ pub(crate) struct Made {
     pub steps: List<DiffStep>,
     pub changed: List<Blob>,
     pub proofs: List<UpdateProof>,
+}
+
+impl Made {
+    /// The same once more. Its error is want of memory.
+    pub(crate) fn copy(&self, alloc: Global) -> Result<Made, AllocError>
+        ensures { IfOk result (λ made. made ≡ self.now) }
+    {
+        Ok(Made {
+            steps: self.steps.copy(alloc)?,
+            changed: Item::copy(&self.changed, alloc)?,
+            proofs: Item::copy(&self.proofs, alloc)?,
+        })
+    }
 }
 
 /// Does one action; an update takes the next of the sectors. `false` where it is an update and no sector is left, or its range isn't
