@@ -1,3 +1,5 @@
 pub mod Makings
 pub mod Parts
 pub mod Preparing
+pub mod Slots
+pub mod Roots

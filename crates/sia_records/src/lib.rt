@@ -6,6 +6,7 @@ mod fetched;
 mod fitting;
 mod host_record;
 mod kind;
+pub mod laws;
 mod making;
 mod part;
 mod read;

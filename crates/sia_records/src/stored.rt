@@ -1,5 +1,5 @@
 //! What changes do to the list of the roots of a contract's sectors, and where new sectors lie.
-ghost use Rattle.std.specs.Prelude.{◌≡◌, [], ◌∷◌, IfOk, length, map};
+ghost use Rattle.std.specs.Prelude.{◌≡◌, IfOk, length, map, slice_index_or};
 ghost use Rattle.sia_records.specs.Stored.{brings_sector as brings, change_by, changes_of as changes_told, slots_behind, step_of};
 
 use crate::change::Change;
@@ -25,12 +25,18 @@ impl Change {
     }
 }
 
+/// The steps that changes are, in order, as they are collected.
+fn collected(alloc: Global, changes: &[Change]) -> Result<Vec<DiffStep>, AllocError>
+    ensures { IfOk result (λ steps. steps.items ≡ map step_of changes.now) }
+{
+    changes.iter().map(|change| change.step()).collect(alloc)
+}
+
 /// The steps that changes are, in order. Its error is want of memory.
 pub fn steps_by(alloc: Global, changes: &[Change]) -> Result<List<DiffStep>, AllocError>
     ensures { IfOk result (λ steps. steps ≡ map step_of changes.now) }
 {
-    let steps = changes.iter().map(|change| change.step()).collect(alloc)?;
-    Ok(List::from_vec(steps))
+    Ok(List::from_vec(collected(alloc, changes)?))
 }
 
 /// Whether a step brings a new sector.
@@ -43,10 +49,18 @@ fn brings_sector(step: &DiffStep) -> bool
     }
 }
 
-/// The change that a step is, where a new sector lies in a slot.
-fn change_at(step: &DiffStep, slot: u64) -> Change
-    ensures { result ≡ change_by step.now (slot ∷ []) }
+/// The first of the slots, or 0 where there is none.
+fn first_slot(slots: &[u64]) -> u64
+    ensures { result ≡ slice_index_or slots.now 0 0 }
 {
+    if slots.is_empty() { 0 } else { slots[0] }
+}
+
+/// The change that a step is, where a new sector lies in the first of the slots.
+fn change_at(step: &DiffStep, slots: &[u64]) -> Change
+    ensures { result ≡ change_by step.now slots.now }
+{
+    let slot = first_slot(slots);
     match step {
         DiffStep::Append(root) => Change::Append { root: *root, slot },
         DiffStep::Trim(fewer) => Change::Trim(*fewer),
@@ -56,6 +70,17 @@ fn change_at(step: &DiffStep, slot: u64) -> Change
             root: *root,
             slot,
         },
+    }
+}
+
+/// The slots that are left behind a step.
+fn slots_left<'a>(step: &DiffStep, slots: &'a [u64]) -> &'a [u64]
+    ensures { result.now ≡ slots_behind step.now slots.now }
+{
+    if brings_sector(step) && !slots.is_empty() {
+        &slots[1..]
+    } else {
+        slots
     }
 }
 
@@ -70,11 +95,8 @@ pub fn changes_of(
     let mut changes = List::new(alloc);
     let mut rest = slots;
     for step in steps {
-        let slot = rest.first().copied().unwrap_or(0);
-        changes.push(change_at(step, slot))?;
-        if brings_sector(step) && !rest.is_empty() {
-            rest = &rest[1..];
-        }
+        changes.push(change_at(step, rest))?;
+        rest = slots_left(step, rest);
     }
     Ok(changes)
 }
