@@ -3,3 +3,4 @@ pub mod Parts
 pub mod Preparing
 pub mod Slots
 pub mod Roots
+pub mod Asking

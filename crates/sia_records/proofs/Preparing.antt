@@ -15,21 +15,21 @@ use Rattle.sia_records.specs.Writes.{Prepared, applied, is_update, is_prepared, 
 use Rattle.sia_records.specs.Making.{IsMade, Makes, changed_by, are_given, merged}
 
 -- both of two tests hold
-both : (a b : Bool) → (a && b) ≡ true → (a ≡ true) × (b ≡ true)
+pub both : (a b : Bool) → (a && b) ≡ true → (a ≡ true) × (b ≡ true)
 both true b is = (refl, is)
 both false b is = cc
 
 -- what doesn't hold is false
-not_true : (b : Bool) → (b ≡ true → ⊥) → b ≡ false
+pub not_true : (b : Bool) → (b ≡ true → ⊥) → b ≡ false
 not_true true never = absurd (never refl)
 not_true false never = refl
 
 -- whether a sector has so many bytes
-abbrev has_length : ℕ → List ℕ → Bool
+abbrev pub has_length : ℕ → List ℕ → Bool
 has_length sector have = nat_eq (length have) sector
 
 -- an update is one more
-one_more : (place offset : ℕ) (bytes : List ℕ) (others : List Action) → count_by is_update (actions.Update place offset bytes ∷ others) ≡ 1 + count_by is_update others
+pub one_more : (place offset : ℕ) (bytes : List ℕ) (others : List Action) → count_by is_update (actions.Update place offset bytes ∷ others) ≡ 1 + count_by is_update others
 one_more place offset bytes others = sum_by-cons (λ x. cond (is_update x) 1 0) (actions.Update place offset bytes) others
 
 -- actions that are fit in sectors of so many bytes are given what they need where there is such a sector for each update

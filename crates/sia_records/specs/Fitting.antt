@@ -1,5 +1,5 @@
 -- What a write or a read must keep by its numbers alone, whatever the contract holds (RHP2's write actions and read sections).
-use Rattle.std.specs.Prelude.{ℕ, ◌+◌, ◌*◌, ◌%◌, nat_eq, nat_le, nat_lt, Bool, true, ◌&&◌, List, length, sum_by}
+use Rattle.std.specs.Prelude.{ℕ, ◌+◌, ◌*◌, ◌%◌, nat_eq, nat_le, nat_lt, Bool, true, false, ◌&&◌, List, length, sum_by}
 use Rattle.std.specs.List.{list_all}
 use Rattle.sia_encoding.specs.declared.limits.TheConstants.{ACTIONS}
 use Rattle.sia_rhp.specs.declared.action.Action.{Action}
@@ -15,6 +15,11 @@ abbrev pub action_fits : ℕ → Action → Bool
 action_fits sector (actions.Append bytes) = nat_eq (length bytes) sector
 action_fits sector (actions.Update place offset bytes) = range_fits sector offset (length bytes)
 action_fits sector _ = true
+
+-- whether an action is an update whose range is fit
+abbrev pub update_fits : ℕ → Action → Bool
+update_fits sector (actions.Update place offset bytes) = range_fits sector offset (length bytes)
+update_fits sector _ = false
 
 -- whether the actions of a write are: at most 16, each fit in itself
 abbrev pub actions_fit : ℕ → List Action → Bool
