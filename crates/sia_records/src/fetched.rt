@@ -8,13 +8,9 @@ use std::snapshot::Snapshot;
 /// The sectors that were fetched. None of their bytes is kept at run time, since a snapshot has no bytes.
 #[derive(Drop)]
 pub(crate) enum Fetched {
-    These {
-        sectors: Snapshot<List<Blob>>,
-    },
+    These { sectors: Snapshot<List<Blob>> },
     /// Those that were fetched for another.
-    Same {
-        other: Snapshot<Fetched>,
-    },
+    Same { other: Snapshot<Fetched> },
 }
 
 impl Fetched {
