@@ -7,12 +7,12 @@ use Rattle.std.proofs.lemmas.List.{map-append}
 use Rattle.std.proofs.lemmas.Grind.{flat_map-append}
 use Rattle.sia_rhp.specs.declared.action.Action.{Action}
 use Rattle.sia_records.specs.declared.making.Made.{Made}
-use Rattle.sia_records.specs.Writes.{Applied, applied, taken_by, left_behind, step_by, proof_by}
+use Rattle.sia_records.specs.Writes.{Applied, with_sectors, taken_by, left_behind, step_by, proof_by}
 use Rattle.sia_records.specs.Making.{Adds, IsMade, Makes, MakesSoFar, changed_by, is_given, are_given}
 
 -- one action more
 pub makes_more : (steps others : List Action) (action : Action) (fetched old new : List (List ℕ)) (before now : Made) → MakesSoFar steps (action ∷ others) fetched old before → Adds action true old new before now → MakesSoFar steps others fetched new now
-unfolding applied are_given
+unfolding with_sectors are_given
 makes_more steps others action fetched old new before now so_far adds =
     let left = adds.left refl in
     let one : Applied = record { action = action; old = taken_by action old } in
@@ -20,7 +20,7 @@ makes_more steps others action fetched old new before now so_far adds =
     record {
       done = (
         so_far.done.0 ++ one ∷ [],
-        so_far.done.1 ∙ (rw left (sym (append_assoc so_far.done.0 (one ∷ []) (applied others (left_behind action old))))),
+        so_far.done.1 ∙ (rw left (sym (append_assoc so_far.done.0 (one ∷ []) (with_sectors others (left_behind action old))))),
         record {
           steps = adds.steps refl ∙ (rw (so_far.done.2.steps, map-append) refl);
           changed = adds.changed refl ∙ (rw (so_far.done.2.changed, flat_map-append, append-nil (changed_by action (taken_by action old))) refl);
@@ -57,9 +57,9 @@ some_left steps i fetched rest made ended some so_far =
 
 -- behind the last action all is made
 pub all_made : (steps : List Action) (i : ℕ) (fetched rest : List (List ℕ)) (made : Made) → length steps ≤ i → length rest ≡ 0 → MakesSoFar steps (drop i steps) fetched rest made → IsMade steps fetched (Some made)
-unfolding are_given applied
+unfolding are_given with_sectors
 all_made steps i fetched rest made ended none so_far =
     let over = drop_of_length-le steps {i = i} ended in
-    let whole : applied steps fetched ≡ so_far.done.0 = so_far.done.1 ∙ (rw (over, append-nil so_far.done.0) refl) in
+    let whole : with_sectors steps fetched ≡ so_far.done.0 = so_far.done.1 ∙ (rw (over, append-nil so_far.done.0) refl) in
     let P : List Applied → Type 0 = λ done. Makes done made in
     (so_far.given ∙ (rw (over, none) refl), subst P (sym whole) so_far.done.2)

@@ -11,7 +11,7 @@ use Rattle.sia_rhp.specs.declared.action.Action.TheVariants as actions
 use Rattle.sia_rhp.specs.declared.request_bodies.WriteRequest.{WriteRequest}
 use Rattle.sia_records.specs.declared.making.Made.{Made}
 use Rattle.sia_records.specs.Fitting.{range_fits, action_fits, actions_fit}
-use Rattle.sia_records.specs.Writes.{Prepared, applied, is_update, is_prepared, updated, put_by, steps_of, sectors_of, updates_of}
+use Rattle.sia_records.specs.Writes.{Prepared, with_sectors, is_update, is_prepared, updated, new_by, steps_of, sectors_of, updates_of}
 use Rattle.sia_records.specs.Making.{IsMade, Makes, changed_by, are_given, merged}
 
 -- both of two tests hold
@@ -63,8 +63,8 @@ same_length offset bytes old fits =
     simp (length-append, length-take, length-drop) (omega arith)
 
 -- where each update is given what it needs, there is a sector for each, of the length of what it makes of it
-changed_whole : (sector : ℕ) (steps : List Action) (fetched : List (List ℕ)) → are_given steps fetched ≡ true → (length fetched ≡ count_by is_update steps) × (list_all (has_length sector) (flat_map (λ one. changed_by one.action one.old) (applied steps fetched)) ≡ list_all (has_length sector) fetched)
-unfolding are_given applied
+changed_whole : (sector : ℕ) (steps : List Action) (fetched : List (List ℕ)) → are_given steps fetched ≡ true → (length fetched ≡ count_by is_update steps) × (list_all (has_length sector) (flat_map (λ one. changed_by one.action one.old) (with_sectors steps fetched)) ≡ list_all (has_length sector) fetched)
+unfolding are_given with_sectors
 changed_whole sector [] [] given = (refl, refl)
 changed_whole sector [] (old ∷ fetched) given = let none : length (old ∷ fetched) ≡ 0 = eqb-true _ _ given in absurd (omega arith)
 changed_whole sector (actions.Append bytes ∷ others) fetched given = changed_whole sector others fetched given
@@ -80,7 +80,7 @@ changed_whole sector (actions.Update place offset bytes ∷ others) (old ∷ fet
     (one, rw (size, later.1) refl)
 
 -- and the write is prepared exactly where its actions are fit and what it makes has that length
-prepared_is : (sector : ℕ) (write : Prepared) (made : Made) → are_given write.request.actions write.fetched ≡ true → Makes (applied write.request.actions write.fetched) made → is_prepared sector write ≡ (actions_fit sector write.request.actions && list_all (has_length sector) made.changed)
+prepared_is : (sector : ℕ) (write : Prepared) (made : Made) → are_given write.request.actions write.fetched ≡ true → Makes (with_sectors write.request.actions write.fetched) made → is_prepared sector write ≡ (actions_fit sector write.request.actions && list_all (has_length sector) made.changed)
 unfolding is_prepared
 prepared_is sector write made given makes =
     let whole = changed_whole sector write.request.actions write.fetched given in
@@ -117,8 +117,8 @@ updates_are request fetched made m now some is view =
     makes.1.proofs ∙ ap updates_of view
 
 -- the new sectors are those that are appended and those that are changed
-merged_is : (steps : List Action) (fetched : List (List ℕ)) → merged steps (flat_map (λ one. changed_by one.action one.old) (applied steps fetched)) ≡ flat_map (λ one. put_by one.action one.old) (applied steps fetched)
-unfolding merged applied
+merged_is : (steps : List Action) (fetched : List (List ℕ)) → merged steps (flat_map (λ one. changed_by one.action one.old) (with_sectors steps fetched)) ≡ flat_map (λ one. new_by one.action one.old) (with_sectors steps fetched)
+unfolding merged with_sectors
 merged_is [] fetched = refl
 merged_is (actions.Append bytes ∷ others) fetched = ap (λ sectors. bytes ∷ sectors) (merged_is others fetched)
 merged_is (actions.Trim count ∷ others) fetched = merged_is others fetched

@@ -12,13 +12,13 @@ use Rattle.sia_types.specs.Transaction.{transaction_law}
 use Rattle.sia_records.specs.declared.change.Change.{Change}
 use Rattle.sia_records.specs.declared.host_record.HostRecord.{HostRecord}
 use Rattle.sia_records.specs.declared.host_record.HostRecord.TheVariants as records
-use Rattle.sia_records.specs.declared.kind.Kind.{Kind}
-use Rattle.sia_records.specs.declared.kind.Kind.TheVariants as kind
+use Rattle.sia_records.specs.declared.kind.RecordKind.{RecordKind}
+use Rattle.sia_records.specs.declared.kind.RecordKind.TheVariants as kind
 use Rattle.sia_records.specs.ChangeLaws.{change_law}
-use Rattle.sia_records.specs.KindLaws.{kinds_law}
+use Rattle.sia_records.specs.KindLaws.{record_kinds_law}
 use Rattle.sia_records.specs.HostRecords.{kind_of_record, block_kept, revert_kept, formed_kept, revised_kept, renewed_kept, record_behind, host_record}
 
-same_kind : (k : Kind) (limit : ℕ) (r : HostRecord) → (record_behind k).fits limit r → kind_of_record r ≡ k
+same_kind : (k : RecordKind) (limit : ℕ) (r : HostRecord) → (record_behind k).fits limit r → kind_of_record r ≡ k
 same_kind kind.Block limit (records.Block mined) fits = refl
 same_kind kind.Revert limit records.Revert fits = refl
 same_kind kind.Formed limit (records.Formed renter_key tx) fits = refl
@@ -48,7 +48,7 @@ renewed_again : (r : HostRecord) (p : Transaction) → renewed_kept r ≡ Some p
 renewed_again (records.Renewed tx) p is = (cc)
 renewed_again _ p is = (cc)
 
-behind_law : (k : Kind) → Lawful (record_behind k)
+behind_law : (k : RecordKind) → Lawful (record_behind k)
 behind_law kind.Block = variant_law (λ p. records.Block p) block_kept (λ p. refl) block_again block_law
 behind_law kind.Revert = variant_law (λ p. records.Revert) revert_kept (λ p. refl) revert_again nothing_law
 behind_law kind.Formed = variant_law (λ p. records.Formed p.0 p.1) formed_kept (λ p. refl) formed_again (hash_law &&& transaction_law)
@@ -57,4 +57,4 @@ behind_law kind.Renewed = variant_law (λ p. records.Renewed p) renewed_kept (λ
 
 -- what is read as a record is spelled so, and what is spelled so is read
 pub host_record_law : Lawful host_record
-host_record_law = choice_law kind_of_record record_behind same_kind kinds_law behind_law
+host_record_law = choice_law kind_of_record record_behind same_kind record_kinds_law behind_law

@@ -13,13 +13,13 @@ use Rattle.sia_types.specs.Transaction.{transaction}
 use Rattle.sia_records.specs.declared.change.Change.{Change}
 use Rattle.sia_records.specs.declared.host_record.HostRecord.{HostRecord}
 use Rattle.sia_records.specs.declared.host_record.HostRecord.TheVariants as records
-use Rattle.sia_records.specs.declared.kind.Kind.{Kind}
-use Rattle.sia_records.specs.declared.kind.Kind.TheVariants as kind
+use Rattle.sia_records.specs.declared.kind.RecordKind.{RecordKind}
+use Rattle.sia_records.specs.declared.kind.RecordKind.TheVariants as kind
 use Rattle.sia_records.specs.Changes.{change}
-use Rattle.sia_records.specs.Kinds.{kinds}
+use Rattle.sia_records.specs.Kinds.{record_kinds}
 
 -- the kind of a record
-abbrev pub kind_of_record : HostRecord → Kind
+abbrev pub kind_of_record : HostRecord → RecordKind
 kind_of_record (records.Block mined) = kind.Block
 kind_of_record records.Revert = kind.Revert
 kind_of_record (records.Formed renter_key tx) = kind.Formed
@@ -52,7 +52,7 @@ renewed_kept (records.Renewed tx) = Some tx
 renewed_kept _ = None
 
 -- what a record of a kind has
-abbrev pub record_behind : Kind → Codec HostRecord
+abbrev pub record_behind : RecordKind → Codec HostRecord
 record_behind kind.Block = variant block (λ p. records.Block p) block_kept
 record_behind kind.Revert = variant nothing (λ p. records.Revert) revert_kept
 record_behind kind.Formed = variant (hash & transaction) (λ p. records.Formed p.0 p.1) formed_kept
@@ -61,4 +61,4 @@ record_behind kind.Renewed = variant transaction (λ p. records.Renewed p) renew
 
 -- a record of a host's journal
 abbrev pub host_record : Codec HostRecord
-host_record = choice kinds kind_of_record record_behind
+host_record = choice record_kinds kind_of_record record_behind

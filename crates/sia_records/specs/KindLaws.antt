@@ -5,12 +5,12 @@ use Rattle.std.proofs.lemmas.Slice.Eq.{bytes_eq-Decides}
 use Rattle.sia_encoding.specs.Codec.{Lawful}
 use Rattle.sia_encoding.specs.CodecLaws.{fixed_law}
 use Rattle.sia_encoding.specs.RecordLaws.{named_law}
-use Rattle.sia_records.specs.declared.kind.Kind.{Kind}
-use Rattle.sia_records.specs.declared.kind.Kind.TheVariants as kind
-use Rattle.sia_records.specs.Kinds.{kind_text, kind_of, every_kind, kinds}
+use Rattle.sia_records.specs.declared.kind.RecordKind.{RecordKind}
+use Rattle.sia_records.specs.declared.kind.RecordKind.TheVariants as kind
+use Rattle.sia_records.specs.Kinds.{record_kind_text, record_kind_of, every_record_kind, record_kinds}
 
 -- the byte of a kind finds it
-pub kind_found : (k : Kind) → kind_of (kind_text k) ≡ Some k
+pub kind_found : (k : RecordKind) → record_kind_of (record_kind_text k) ≡ Some k
 kind_found kind.Block = refl
 kind_found kind.Revert = refl
 kind_found kind.Formed = refl
@@ -27,9 +27,9 @@ found_passes {X} p (y ∷ ys) x is = here (p y) refl is (λ later. found_passes 
     here false fails is others = others is
 
 -- a kind that is found has the byte
-pub kind_named : (text : List ℕ) (k : Kind) → kind_of text ≡ Some k → kind_text k ≡ text
-kind_named text k is = (bytes_eq-Decides (kind_text k) text).0 (found_passes (λ l. bytes_eq (kind_text l) text) every_kind k is)
+pub kind_named : (text : List ℕ) (k : RecordKind) → record_kind_of text ≡ Some k → record_kind_text k ≡ text
+kind_named text k is = (bytes_eq-Decides (record_kind_text k) text).0 (found_passes (λ l. bytes_eq (record_kind_text l) text) every_record_kind k is)
 
 -- what is read as a kind is spelled so, and what is spelled so is read
-pub kinds_law : Lawful kinds
-kinds_law = named_law kind_text kind_of kind_found kind_named (fixed_law 1)
+pub record_kinds_law : Lawful record_kinds
+record_kinds_law = named_law record_kind_text record_kind_of kind_found kind_named (fixed_law 1)

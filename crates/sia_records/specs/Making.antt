@@ -8,7 +8,7 @@ use Rattle.sia_rhp.specs.declared.answer_bodies.Part.{Part}
 use Rattle.sia_rhp.specs.declared.request_bodies.Section.{Section}
 use Rattle.sia_records.specs.Fitting.{range_fits}
 use Rattle.sia_records.specs.Reads.{are_served, parts}
-use Rattle.sia_records.specs.Writes.{Applied, applied, taken_by, left_behind, updated, step_by, proof_by}
+use Rattle.sia_records.specs.Writes.{Applied, with_sectors, taken_by, left_behind, updated, step_by, proof_by}
 
 -- the sector after an action, if it is an update
 abbrev pub changed_by : Action → List ℕ → List (List ℕ)
@@ -43,7 +43,7 @@ pub record Makes (done : List Applied) (made : Made) : Type 0 where
 -- What is made of a write: nothing where an update has no sector in which its range is fit, or a sector is left.
 abbrev pub IsMade : List Action → List (List ℕ) → Option Made → Type 0
 IsMade steps fetched None = are_given steps fetched ≡ false
-IsMade steps fetched (Some made) = (are_given steps fetched ≡ true) × Makes (applied steps fetched) made
+IsMade steps fetched (Some made) = (are_given steps fetched ≡ true) × Makes (with_sectors steps fetched) made
 
 -- the new sectors of actions, where the updated ones are given in order
 unfoldable pub merged : List Action → List (List ℕ) → List (List ℕ)
@@ -55,7 +55,7 @@ merged (_ ∷ others) changed = merged others changed
 
 -- What is made of a write as far as its actions were done: those that are left take the sectors that are left.
 pub record MakesSoFar (steps left : List Action) (fetched rest : List (List ℕ)) (made : Made) : Type 0 where
-  pub done : (front : List Applied) × (applied steps fetched ≡ front ++ applied left rest) × Makes front made
+  pub done : (front : List Applied) × (with_sectors steps fetched ≡ front ++ with_sectors left rest) × Makes front made
   pub given : are_given steps fetched ≡ are_given left rest
 
 -- What is made of a read: nothing where a section has no sector in which its range is fit, or a sector is left.

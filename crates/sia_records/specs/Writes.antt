@@ -48,9 +48,9 @@ abbrev pub left_behind : Action → List (List ℕ) → List (List ℕ)
 left_behind action fetched = if is_update action then drop 1 fetched else fetched
 
 -- each action with the sector that it changes
-unfoldable pub applied : List Action → List (List ℕ) → List Applied
-applied [] fetched = []
-applied (action ∷ others) fetched = record { action = action; old = taken_by action fetched } ∷ applied others (left_behind action fetched)
+unfoldable pub with_sectors : List Action → List (List ℕ) → List Applied
+with_sectors [] fetched = []
+with_sectors (action ∷ others) fetched = record { action = action; old = taken_by action fetched } ∷ with_sectors others (left_behind action fetched)
 
 -- a sector with other bytes from an offset on
 abbrev pub updated : ℕ → List ℕ → List ℕ → List ℕ
@@ -68,31 +68,31 @@ step_by (actions.Swap one other) old = step.Swap one other
 step_by (actions.Update place offset bytes) old = step.Set place (sector_root (updated offset bytes old))
 
 -- the sector that an action puts, if it puts one
-abbrev pub put_by : Action → List ℕ → List (List ℕ)
-put_by (actions.Append bytes) old = bytes ∷ []
-put_by (actions.Update place offset bytes) old = updated offset bytes old ∷ []
-put_by _ old = []
+abbrev pub new_by : Action → List ℕ → List (List ℕ)
+new_by (actions.Append bytes) old = bytes ∷ []
+new_by (actions.Update place offset bytes) old = updated offset bytes old ∷ []
+new_by _ old = []
 
 -- the proof of an update: the roots of the cover of the leaves that it changes, and those of the cover of all others
-abbrev pub update_proof : ℕ → List ℕ → List ℕ → UpdateProof
-update_proof offset bytes old = record {
+abbrev pub proof_of_update : ℕ → List ℕ → List ℕ → UpdateProof
+proof_of_update offset bytes old = record {
   inner = roots_inside (map leaf_digest (leaves_of old)) (leaf_count (length old)) (offset / 64) ((offset + length bytes) / 64);
   outer = roots_outside (map leaf_digest (leaves_of old)) (leaf_count (length old)) (offset / 64) ((offset + length bytes) / 64);
 }
 
 -- the proof of an action, if it is an update
 abbrev pub proof_by : Action → List ℕ → List UpdateProof
-proof_by (actions.Update place offset bytes) old = update_proof offset bytes old ∷ []
+proof_by (actions.Update place offset bytes) old = proof_of_update offset bytes old ∷ []
 proof_by _ old = []
 
 -- the steps of a write, in order
 unfoldable pub steps_of : Prepared → List DiffStep
-steps_of write = map (λ done. step_by done.action done.old) (applied write.request.actions write.fetched)
+steps_of write = map (λ done. step_by done.action done.old) (with_sectors write.request.actions write.fetched)
 
 -- the sectors that it puts, in order
 unfoldable pub sectors_of : Prepared → List (List ℕ)
-sectors_of write = flat_map (λ done. put_by done.action done.old) (applied write.request.actions write.fetched)
+sectors_of write = flat_map (λ done. new_by done.action done.old) (with_sectors write.request.actions write.fetched)
 
 -- the proofs of its updates, in order
 unfoldable pub updates_of : Prepared → List UpdateProof
-updates_of write = flat_map (λ done. proof_by done.action done.old) (applied write.request.actions write.fetched)
+updates_of write = flat_map (λ done. proof_by done.action done.old) (with_sectors write.request.actions write.fetched)

@@ -2,7 +2,7 @@
 ghost use Rattle.std.specs.Prelude.{ℕ, ◌++◌};
 
 use crate::change::Change;
-use crate::kind::Kind;
+use crate::kind::RecordKind;
 use sia_encoding::{Blob, Cursor, DecodeFault, Item, List, Spelled, behind};
 use sia_types::{Block, Revision, Transaction};
 use std::alloc::{AllocError, Global};
@@ -45,40 +45,40 @@ impl Item for HostRecord {
     ghost law = { host_record_law };
 
     fn read(alloc: Global, cursor: &mut Cursor<'_>) -> Result<HostRecord, DecodeFault> {
-        let kind = Kind::read(alloc, cursor)?;
+        let kind = RecordKind::read(alloc, cursor)?;
         match kind {
-            Kind::Block => Ok(HostRecord::Block(Item::read(alloc, cursor)?)),
-            Kind::Revert => Ok(HostRecord::Revert),
-            Kind::Formed => Ok(HostRecord::Formed {
+            RecordKind::Block => Ok(HostRecord::Block(Item::read(alloc, cursor)?)),
+            RecordKind::Revert => Ok(HostRecord::Revert),
+            RecordKind::Formed => Ok(HostRecord::Formed {
                 renter_key: Item::read(alloc, cursor)?,
                 transaction: Item::read(alloc, cursor)?,
             }),
-            Kind::Revised => Ok(HostRecord::Revised {
+            RecordKind::Revised => Ok(HostRecord::Revised {
                 revision: Item::read(alloc, cursor)?,
                 renter: Item::read(alloc, cursor)?,
                 host: Item::read(alloc, cursor)?,
                 changes: Item::read(alloc, cursor)?,
             }),
-            Kind::Renewed => Ok(HostRecord::Renewed(Item::read(alloc, cursor)?)),
+            RecordKind::Renewed => Ok(HostRecord::Renewed(Item::read(alloc, cursor)?)),
         }
     }
 
     fn write(&self, out: &mut Blob) -> Result<(), AllocError> {
         match self {
-            HostRecord::Block(block) => behind!(Kind::Block, *block).write_each(out),
-            HostRecord::Revert => Kind::Revert.write(out),
+            HostRecord::Block(block) => behind!(RecordKind::Block, *block).write_each(out),
+            HostRecord::Revert => RecordKind::Revert.write(out),
             HostRecord::Formed {
                 renter_key,
                 transaction,
-            } => behind!(Kind::Formed, *renter_key, *transaction).write_each(out),
+            } => behind!(RecordKind::Formed, *renter_key, *transaction).write_each(out),
             HostRecord::Revised {
                 revision,
                 renter,
                 host,
                 changes,
-            } => behind!(Kind::Revised, *revision, *renter, *host, *changes).write_each(out),
+            } => behind!(RecordKind::Revised, *revision, *renter, *host, *changes).write_each(out),
             HostRecord::Renewed(transaction) => {
-                behind!(Kind::Renewed, *transaction).write_each(out)
+                behind!(RecordKind::Renewed, *transaction).write_each(out)
             }
         }
     }

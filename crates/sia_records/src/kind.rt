@@ -1,13 +1,13 @@
 //! The kinds of a host's records: what a record begins with.
 ghost use Rattle.std.specs.Prelude.{◌≡◌, ℕ, ◌++◌, Option};
-ghost use Rattle.sia_records.specs.Kinds.{kind_of, kind_text};
+ghost use Rattle.sia_records.specs.Kinds.{record_kind_of, record_kind_text};
 
 use sia_encoding::{Blob, Cursor, DecodeFault, Item, put_fixed};
 use std::alloc::{AllocError, Global};
 
 /// What a record of a host's journal tells of. It is spelled by one byte.
 #[derive(Clone, Copy, Debug, PartialEq, Eq)]
-pub(crate) enum Kind {
+pub(crate) enum RecordKind {
     /// A block.
     Block,
     /// A revert.
@@ -20,49 +20,52 @@ pub(crate) enum Kind {
     Renewed,
 }
 
-impl Kind {
+impl RecordKind {
     /// Every kind.
-    const ALL: [Kind; 5] = [
-        Kind::Block,
-        Kind::Revert,
-        Kind::Formed,
-        Kind::Revised,
-        Kind::Renewed,
+    const ALL: [RecordKind; 5] = [
+        RecordKind::Block,
+        RecordKind::Revert,
+        RecordKind::Formed,
+        RecordKind::Revised,
+        RecordKind::Renewed,
     ];
 
     /// The byte of the kind.
     fn text(self) -> [u8; 1]
-        ensures { result ≡ kind_text self }
+        ensures { result ≡ record_kind_text self }
     {
         match self {
-            Kind::Block => [1],
-            Kind::Revert => [2],
-            Kind::Formed => [3],
-            Kind::Revised => [4],
-            Kind::Renewed => [5],
+            RecordKind::Block => [1],
+            RecordKind::Revert => [2],
+            RecordKind::Formed => [3],
+            RecordKind::Revised => [4],
+            RecordKind::Renewed => [5],
         }
     }
 
     /// The kind that has this byte, if one has.
-    fn of(text: &[u8; 1]) -> Option<Kind>
-        ensures { result ≡ kind_of text.now }
+    fn of(text: &[u8; 1]) -> Option<RecordKind>
+        ensures { result ≡ record_kind_of text.now }
     {
-        Kind::ALL.iter().copied().find(|kind| kind.text() == *text)
+        RecordKind::ALL
+            .iter()
+            .copied()
+            .find(|kind| kind.text() == *text)
     }
 }
 
-impl Item for Kind {
-    ghost use Rattle.sia_records.specs.Kinds.{kinds};
-    ghost use Rattle.sia_records.specs.KindLaws.{kinds_law};
+impl Item for RecordKind {
+    ghost use Rattle.sia_records.specs.Kinds.{record_kinds};
+    ghost use Rattle.sia_records.specs.KindLaws.{record_kinds_law};
 
-    ghost codec = { kinds };
+    ghost codec = { record_kinds };
 
-    ghost law = { kinds_law };
+    ghost law = { record_kinds_law };
 
-    fn read(_alloc: Global, cursor: &mut Cursor<'_>) -> Result<Kind, DecodeFault> {
+    fn read(_alloc: Global, cursor: &mut Cursor<'_>) -> Result<RecordKind, DecodeFault> {
         let at = cursor.at();
         let text = cursor.take_fixed::<1>()?;
-        match Kind::of(&text) {
+        match RecordKind::of(&text) {
             Some(kind) => Ok(kind),
             None => Err(DecodeFault::BadKind { at }),
         }
@@ -72,7 +75,7 @@ impl Item for Kind {
         put_fixed(out, &self.text())
     }
 
-    fn copy(&self, _alloc: Global) -> Result<Kind, AllocError> {
+    fn copy(&self, _alloc: Global) -> Result<RecordKind, AllocError> {
         Ok(*self)
     }
 }

@@ -1,7 +1,7 @@
 //! One update of part of a sector, and its proof (RHP2's update action).
 ghost use Rattle.std.specs.Prelude.{◌≡◌, ◌+◌, ◌≤◌, [], ◌∷◌, IfOk, IsTrue, length};
 ghost use Rattle.sia_records.specs.Fitting.{range_fits};
-ghost use Rattle.sia_records.specs.Writes.{updated, update_proof};
+ghost use Rattle.sia_records.specs.Writes.{updated, proof_of_update};
 
 use sia_encoding::Blob;
 use sia_range::prove_update;
@@ -44,7 +44,7 @@ pub(crate) fn update(
 ) -> Result<Updated, AllocError>
     requires { IsTrue (range_fits (length old) offset (length bytes.now)) }
     ensures sector { IfOk result (λ done. done.sector ≡ updated offset bytes.now old) }
-    ensures proof { IfOk result (λ done. done.proof ≡ update_proof offset bytes.now old) }
+    ensures proof { IfOk result (λ done. done.proof ≡ proof_of_update offset bytes.now old) }
 {
     let end = offset + bytes.len() as u64;
     let proof = prove_update(alloc, old.as_slice(), offset / 64, end / 64)?;
