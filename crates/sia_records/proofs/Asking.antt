@@ -1,8 +1,7 @@
 -- Writes and reads that were prepared with what they ask for.
-use Rattle.std.proofs.Common.{◌≡◌, ◌⊎◌, inl, inr, ℕ, ◌+◌, nat_eq, nat_le, Bool, true, false, cond, ◌&&◌, List, [], ◌∷◌, length, count_by, All, refl, sym, ap, ◌∙◌, eq-eqb, arith}
+use Rattle.std.proofs.Common.{◌≡◌, ◌⊎◌, inl, inr, ℕ, ◌+◌, nat_eq, Bool, true, false, cond, ◌&&◌, List, [], ◌∷◌, length, count_by, All, refl, sym, ap, ◌∙◌, eq-eqb, arith}
 use Rattle.std.specs.List.{list_all}
 use Rattle.std.specs.Cmp.Derive.{both_true}
-use Rattle.std.proofs.Math.Bool.{and-true}
 use Rattle.std.proofs.lemmas.List.Elements.{All-tail}
 use Rattle.std.proofs.lemmas.List.Sums.{sum_by-cons}
 use Rattle.sia_rhp.specs.declared.action.Action.{Action}
@@ -11,7 +10,7 @@ use Rattle.sia_rhp.specs.declared.request_bodies.Section.{Section}
 use Rattle.sia_records.specs.Fitting.{range_fits, action_fits, actions_fit, section_fits, sections_fit, update_fits}
 use Rattle.sia_records.specs.Reads.{Read, are_served, is_served}
 use Rattle.sia_records.specs.Writes.{Prepared, is_prepared, is_update}
-use Rattle.sia_records.proofs.Preparing.{both, has_length, not_true, one_more}
+use Rattle.sia_records.proofs.Preparing.{both, has_length, one_more}
 
 -- sectors of so many bytes pass the test
 all_whole : (sector : ℕ) (fetched : List (List ℕ)) → All (λ old. length old ≡ sector) fetched → list_all (has_length sector) fetched ≡ true

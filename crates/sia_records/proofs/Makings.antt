@@ -1,13 +1,12 @@
 -- What a write makes, action by action.
-use Rattle.std.proofs.Common.{◌≡◌, ℕ, ◌+◌, ◌<◌, ◌≤◌, nat_eq, Bool, true, false, ◌&&◌, List, [], ◌∷◌, ◌++◌, length, get_or, map, drop, Some, refl, sym, subst, ◌∙◌, append_assoc, append-nil, add-one, drop-cons, arith}
-use Rattle.std.specs.List.{flat_map}
+use Rattle.std.proofs.Common.{◌≡◌, ℕ, ◌+◌, ◌<◌, ◌≤◌, Bool, true, false, List, [], ◌∷◌, ◌++◌, length, get_or, drop, Some, refl, sym, subst, ◌∙◌, append_assoc, append-nil, add-one, drop-cons, arith}
 use Rattle.std.proofs.Math.ListN.{drop_of_length-le}
 use Rattle.std.proofs.lemmas.Bool.{ne_eqb}
 use Rattle.std.proofs.lemmas.List.{map-append}
 use Rattle.std.proofs.lemmas.Grind.{flat_map-append}
 use Rattle.sia_rhp.specs.declared.action.Action.{Action}
 use Rattle.sia_records.specs.declared.making.Made.{Made}
-use Rattle.sia_records.specs.Writes.{Applied, with_sectors, taken_by, left_behind, step_by, proof_by}
+use Rattle.sia_records.specs.Writes.{Applied, with_sectors, taken_by, left_behind, proof_by}
 use Rattle.sia_records.specs.Making.{Adds, IsMade, Makes, MakesSoFar, changed_by, is_given, are_given}
 
 -- one action more

@@ -1,4 +1,4 @@
-use Rattle.std.proofs.Common.{◌≡◌, ◌<◌, ◌≤◌, length, arith}
+use Rattle.std.proofs.Common.{◌<◌, ◌≤◌, length, arith}
 use Rattle.sia_records.proofs.Parts.{part_left, part_missing, part_unfit, parts_made, parts_next}
 use Rattle.sia_records.proofs.part.make_parts.Goals as goal
 

@@ -1,4 +1,4 @@
-use Rattle.std.proofs.Common.{◌≡◌, true, ap, sym, ◌∙◌}
+use Rattle.std.proofs.Common.{◌≡◌, true, sym}
 use Rattle.sia_records.specs.Fitting.{actions_fit}
 use Rattle.sia_records.proofs.Preparing.{none_prepared, some_prepared}
 use Rattle.sia_records.proofs.write.PreparedWrite.fits.Goals as goal
