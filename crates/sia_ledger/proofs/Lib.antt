@@ -3,6 +3,8 @@ pub mod Beginning
 pub mod BlockTexts
 pub mod Bounds
 pub mod Claimed
+pub mod Cataloging
+pub mod Chaining
 pub mod Claims
 pub mod Conserved
 pub mod Consumed
@@ -26,6 +28,7 @@ pub mod NewTexts
 pub mod Ordered
 pub mod OtherFaults
 pub mod Outcomes
+pub mod Places
 pub mod Registering
 pub mod Resting
 pub mod Right
@@ -37,4 +40,5 @@ pub mod Told
 pub mod Totals
 pub mod TransactionTexts
 pub mod Twice
+pub mod Walking
 pub mod Walks

@@ -19,3 +19,5 @@ pub mod Claiming
 pub mod Judging
 pub mod Registered
 pub mod Making
+pub mod Chained
+pub mod Cataloged

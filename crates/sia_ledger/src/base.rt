@@ -4,7 +4,7 @@ ghost use Rattle.sia_ledger.specs.Holdings.{last_id};
 ghost use Rattle.sia_ledger.specs.Judging.{state_kept};
 ghost use Rattle.sia_ledger.specs.State.{next};
 
-use crate::register::Register;
+use crate::catalog::Catalog;
 use sia_blake::Hash;
 use std::marker::Model;
 
@@ -12,7 +12,7 @@ use std::marker::Model;
 #[derive(Drop)]
 pub(crate) struct Base<'a> {
     ids: &'a [Hash],
-    register: &'a Register,
+    catalog: &'a Catalog,
 }
 
 impl<'a> Model for Base<'a> {
@@ -21,15 +21,15 @@ impl<'a> Model for Base<'a> {
 
     ghost Value = { State };
 
-    ghost view = { λ b. record { ids = b.ids.now; facts = b.register.now; twice = None } };
+    ghost view = { λ b. record { ids = b.ids.now; facts = b.catalog.now; twice = None } };
 }
 
 impl<'a> Base<'a> {
     /// What these identifiers and facts say.
-    pub(crate) fn new(ids: &'a [Hash], register: &'a Register) -> Base<'a>
-        ensures { result ≡ state_kept ids.now register.now }
+    pub(crate) fn new(ids: &'a [Hash], catalog: &'a Catalog) -> Base<'a>
+        ensures { result ≡ state_kept ids.now catalog.now }
     {
-        Base { ids, register }
+        Base { ids, catalog }
     }
 
     /// The identifiers of the genesis and of each block.
@@ -40,11 +40,11 @@ impl<'a> Base<'a> {
     }
 
     /// What the genesis and the blocks made and did.
-    pub(crate) fn register(&self) -> &'a Register
+    pub(crate) fn catalog(&self) -> &'a Catalog
         ensures facts { result.now ≡ self.now.facts }
         ensures new { self.now.twice ≡ None }
     {
-        self.register
+        self.catalog
     }
 
     /// The height of the next block.

@@ -6,6 +6,7 @@ ghost use Rattle.sia_ledger.specs.Known.{state_in};
 ghost use Rattle.sia_ledger.specs.State.{add, next};
 
 use crate::base::Base;
+use crate::catalog::Catalog;
 use crate::ending::ending_of;
 use crate::fact::{Deed, Fact};
 use crate::lookups::is_making;
@@ -20,7 +21,7 @@ use std::marker::Model;
 #[derive(Drop)]
 pub(crate) struct Draft<'a> {
     ids: &'a [Hash],
-    kept: &'a Register,
+    kept: &'a Catalog,
     fresh: Register,
     twice: Option<Hash>,
 }
@@ -41,7 +42,7 @@ impl<'a> Draft<'a> {
     {
         Draft {
             ids: base.ids(),
-            kept: base.register(),
+            kept: base.catalog(),
             fresh: Register::new(alloc),
             twice: None,
         }
@@ -138,7 +139,7 @@ impl<'a> Draft<'a> {
     pub(crate) fn ending(&self, alloc: Global, height: u64) -> Result<List<Hash>, AllocError>
         ensures { IfOk result (λ ids. ids ≡ ending height (state_in self.now).facts) }
     {
-        ending_of(alloc, height, self.kept.as_slice(), self.fresh.as_slice())
+        ending_of(alloc, height, self.kept, &self.fresh)
     }
 
     /// One fact more, unless it makes what was made before.

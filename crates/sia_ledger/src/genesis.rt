@@ -14,11 +14,11 @@ ghost use Rattle.sia_ledger.specs.Facts.{fact};
 ghost use Rattle.sia_ledger.specs.declared.fact.Deed.TheVariants as deed;
 
 use crate::base::Base;
+use crate::catalog::Catalog;
 use crate::draft::Draft;
 use crate::fact::{Deed, Fact};
 use crate::fault::GenesisFault;
 use crate::params::Params;
-use crate::register::Register;
 use sia_blake::Hash;
 use sia_encoding::List;
 use sia_ids::genesis_fund_id;
@@ -81,7 +81,7 @@ pub(crate) fn make_genesis(
 {
     let own = *id;
     let ids = [own];
-    let none = Register::new(alloc);
+    let none = Catalog::new(alloc);
     let base = Base::new(&ids, &none);
     let mut draft = Draft::begin(alloc, &base);
     add_genesis(&mut draft, id, funds)?;

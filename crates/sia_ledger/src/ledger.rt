@@ -19,6 +19,7 @@ ghost use Rattle.sia_ledger.specs.Refusal.{refusal, set_refusal};
 ghost use Rattle.sia_ledger.specs.State.{next};
 
 use crate::base::Base;
+use crate::catalog::Catalog;
 use crate::fact::Fact;
 use crate::fault::{GenesisFault, RevertFault};
 use crate::genesis::{check_params, make_genesis};
@@ -28,7 +29,6 @@ use crate::owned::owned_by;
 use crate::params::Params;
 use crate::parts::{drop_block, push_block};
 use crate::present::{status_among, terms_among};
-use crate::register::Register;
 use crate::sums::{Status, Sums};
 use crate::typed::Typed;
 use sia_blake::Hash;
@@ -53,7 +53,7 @@ pub struct Ledger {
     /// The identifiers of the genesis and of each block, by height.
     ids: List<Hash>,
     /// What the genesis and the blocks made and did.
-    register: Register,
+    catalog: Catalog,
     /// How many facts stood before each block.
     marks: List<u64>,
 }
@@ -67,7 +67,7 @@ impl Model for Ledger {
 
     ghost view = { λ l. record { maturity = l.maturity; funds = l.funds; blocks = l.blocks } };
 
-    ghost invariant = { λ l. IsKept (record { maturity = l.maturity; funds = l.funds; blocks = l.blocks }) l.ids l.register l.marks };
+    ghost invariant = { λ l. IsKept (record { maturity = l.maturity; funds = l.funds; blocks = l.blocks }) l.ids l.catalog l.marks };
 }
 
 impl Ledger {
@@ -89,14 +89,14 @@ impl Ledger {
             return Err(GenesisFault::Memory);
         }
         let ids = List::from_slice(alloc, &[id])?;
-        let mut register = Register::new(alloc);
-        register.append(begun.made)?;
+        let mut catalog = Catalog::new(alloc);
+        catalog.append(begun.made)?;
         Ok(Ledger {
             maturity,
             funds,
             blocks: List::new(alloc),
             ids,
-            register,
+            catalog,
             marks: List::new(alloc),
         })
     }
@@ -144,7 +144,7 @@ impl Ledger {
         push_block(
             &mut self.blocks,
             &mut self.ids,
-            &mut self.register,
+            &mut self.catalog,
             &mut self.marks,
             copy,
             judged,
@@ -165,7 +165,7 @@ impl Ledger {
         match self.blocks.pop() {
             None => Err(RevertFault::NoBlock),
             Some(_) => {
-                drop_block(&mut self.ids, &mut self.register, &mut self.marks);
+                drop_block(&mut self.ids, &mut self.catalog, &mut self.marks);
                 Ok(())
             }
         }
@@ -193,7 +193,7 @@ impl Ledger {
     {
         let height = self.height();
         let base = self.base();
-        let register = base.register();
+        let register = base.catalog().register();
         let (outputs, escrow) = (register.outputs(), register.escrow());
         let issued = issued_at(height);
         Sums {
@@ -237,21 +237,21 @@ impl Ledger {
         ensures right { EachProofIsRight self.now }
         ensures missed { (result ≡ status.Missed) ↔ EndedUnproved self.now contract.now }
     {
-        status_among(self.base().register(), contract)
+        status_among(self.base().catalog().register(), contract)
     }
 
     /// The present terms of the running contract with this identifier; `None` where none runs. Its error is want of memory.
     pub fn terms(&self, alloc: Global, contract: &Hash) -> Result<Option<Terms>, AllocError>
         ensures { IfOk result (λ terms. terms ≡ terms_of self.now contract.now) }
     {
-        terms_among(alloc, self.base().register(), contract)
+        terms_among(alloc, self.base().catalog().register(), contract)
     }
 
     /// The live siacoin outputs at an address, by ascending identifiers. Its error is want of memory.
     pub fn coins(&self, alloc: Global, address: &Hash) -> Result<List<Coin>, AllocError>
         ensures { IfOk result (λ coins. coins ≡ coins_at self.now address.now) }
     {
-        owned_by(alloc, address, self.base().register().as_slice())
+        owned_by(alloc, address, self.base().catalog())
     }
 
     /// What holds of each chain that a ledger stands for.
@@ -268,7 +268,7 @@ impl Ledger {
         let first = self.ids.len().saturating_sub(self.maturity as usize);
         match self.marks.as_slice().get(first) {
             None => &[],
-            Some(mark) => self.register.as_slice().split_at(*mark as usize).1,
+            Some(mark) => self.catalog.as_slice().split_at(*mark as usize).1,
         }
     }
 
@@ -284,7 +284,7 @@ impl Ledger {
         ensures within { (block : Block) → IsBounded (with_block block (state_of self.now)) }
         ensures totals { Totals self.now (facts self.now) }
     {
-        Base::new(self.ids.as_slice(), &self.register)
+        Base::new(self.ids.as_slice(), &self.catalog)
     }
 
     // What the block makes and does behind this chain, or the first rule that it breaks.

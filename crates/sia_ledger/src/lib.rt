@@ -39,6 +39,8 @@
 
 mod balance;
 mod base;
+mod catalog;
+mod chains;
 mod claiming;
 mod coins;
 mod contracts;

@@ -1,32 +1,49 @@
 //! The live siacoin outputs at an address, by ascending identifiers.
-ghost use Rattle.std.specs.Prelude.{◌≡◌, ◌≤◌, ◌++◌, ◌∷◌, length, take, drop, Some, IfOk, OnOk};
-ghost use Rattle.sia_ledger.specs.Facts.{coin_in};
+ghost use Rattle.std.specs.Prelude.{◌≡◌, ◌+◌, ◌<◌, ◌≤◌, ◌++◌, ◌∷◌, length, take, drop, not, Some, IfOk, OnOk};
+ghost use Rattle.sia_ledger.specs.Facts.{coin_in, is_known};
 ghost use Rattle.sia_ledger.specs.Holdings.{coin_of, live_coins_at};
 ghost use Rattle.sia_ledger.specs.Order.{put_by};
 
+use crate::catalog::Catalog;
 use crate::fact::{Deed, Fact};
-use crate::lookups::is_among;
+use crate::register::Register;
 use sia_blake::Hash;
 use sia_encoding::List;
 use sia_types::Coin;
 use std::alloc::{AllocError, Global};
 
-/// The live siacoin outputs at an address.
-#[tactic(auto, using(crate::proofs::Ordered::owned_from, crate::proofs::Ordered::owned_nothing))]
+/// The live siacoin outputs at an address. It goes through the facts that pay it alone, from the last to the first.
 pub(crate) fn owned_by(
     alloc: Global,
     address: &Hash,
-    facts: &[Fact],
+    catalog: &Catalog,
 ) -> Result<List<Coin>, AllocError>
-    ensures { IfOk result (λ coins. coins ≡ live_coins_at facts.now address.now) }
+    ensures { IfOk result (λ coins. coins ≡ live_coins_at catalog.now address.now) }
 {
     let mut coins = Vec::new(alloc);
-    let mut at = facts.len();
-    while at > 0 {
-        at -= 1;
-        put_one(&mut coins, address, &facts[at], &facts[at + 1..])?;
+    let mut next = catalog.last_paying(address);
+    while let Some(place) = next {
+        put_at(&mut coins, address, catalog.register(), place as usize)?;
+        next = catalog.paying_before(place, address);
     }
     Ok(List::from_vec(coins))
+}
+
+// Puts the output of the fact at a place to those of the facts behind it.
+#[tactic(auto, using(crate::proofs::Ordered::owned_from))]
+fn put_at(
+    coins: &mut Vec<Coin>,
+    address: &Hash,
+    register: &Register,
+    place: usize,
+) -> Result<(), AllocError>
+    requires within { place < length register.now }
+    requires put { coins.old.items ≡ live_coins_at (drop (place + 1) register.now) address.now }
+    ensures { OnOk result (coins.new.items ≡ live_coins_at (drop place register.now) address.now) }
+{
+    let is_last = register.is_last(place);
+    let facts = register.as_slice();
+    put_one(coins, address, &facts[place], &facts[place + 1..], is_last)
 }
 
 // Puts the output of a fact to those of the facts behind it.
@@ -35,12 +52,14 @@ fn put_one(
     coins: &mut Vec<Coin>,
     address: &Hash,
     fact: &Fact,
-    after: &[Fact],
+    _behind: &[Fact],
+    is_last: bool,
 ) -> Result<(), AllocError>
-    requires { coins.old.items ≡ live_coins_at after.now address.now }
-    ensures { OnOk result (coins.new.items ≡ live_coins_at (fact.now ∷ after.now) address.now) }
+    requires last { is_last ≡ not (is_known _behind.now fact.now.id) }
+    requires put { coins.old.items ≡ live_coins_at _behind.now address.now }
+    ensures { OnOk result (coins.new.items ≡ live_coins_at (fact.now ∷ _behind.now) address.now) }
 {
-    if is_among(after, &fact.id) {
+    if !is_last {
         return Ok(());
     }
     match coin_here(address, fact) {

@@ -1,9 +1,9 @@
 //! The lists that grow and shrink with a chain: its blocks, their identifiers, what was made and done, and the marks in it.
 ghost use Rattle.std.specs.Prelude.{◌≡◌, ℕ, ◌-◌, ◌++◌, ◌∷◌, [], List as Sequence, length, take, OnOk, OnErr};
 
+use crate::catalog::Catalog;
 use crate::fact::Fact;
 use crate::judging::Judged;
-use crate::register::Register;
 use sia_blake::Hash;
 use sia_encoding::List;
 use sia_types::Block;
@@ -14,18 +14,18 @@ use std::alloc::AllocError;
 pub(crate) fn push_block(
     blocks: &mut List<Block>,
     ids: &mut List<Hash>,
-    register: &mut Register,
+    catalog: &mut Catalog,
     marks: &mut List<u64>,
     block: Block,
     judged: Judged,
 ) -> Result<(), AllocError>
     ensures blocks { OnOk result (blocks.new ≡ blocks.old ++ block ∷ []) }
     ensures ids { OnOk result (ids.new ≡ ids.old ++ judged.id ∷ []) }
-    ensures facts { OnOk result (register.new ≡ register.old ++ judged.made) }
-    ensures marks { OnOk result (marks.new ≡ marks.old ++ length register.old ∷ []) }
+    ensures facts { OnOk result (catalog.new ≡ catalog.old ++ judged.made) }
+    ensures marks { OnOk result (marks.new ≡ marks.old ++ length catalog.old ∷ []) }
     ensures blocks_stay { OnErr result (blocks.new ≡ blocks.old) }
     ensures ids_stay { OnErr result (ids.new ≡ ids.old) }
-    ensures facts_stay { OnErr result (register.new ≡ register.old) }
+    ensures facts_stay { OnErr result (catalog.new ≡ catalog.old) }
     ensures marks_stay { OnErr result (marks.new ≡ marks.old) }
 {
     let Judged { id, made } = judged;
@@ -35,7 +35,7 @@ pub(crate) fn push_block(
         blocks.truncate(block_count);
         return Err(AllocError);
     }
-    if push_marked(register, marks, made).is_err() {
+    if push_marked(catalog, marks, made).is_err() {
         blocks.truncate(block_count);
         ids.truncate(id_count);
         return Err(AllocError);
@@ -45,18 +45,18 @@ pub(crate) fn push_block(
 
 // Puts facts behind the last ones, and a mark behind the last mark. Its error is want of memory: both stay.
 fn push_marked(
-    register: &mut Register,
+    catalog: &mut Catalog,
     marks: &mut List<u64>,
     made: List<Fact>,
 ) -> Result<(), AllocError>
-    ensures facts { OnOk result (register.new ≡ register.old ++ made) }
-    ensures marks { OnOk result (marks.new ≡ marks.old ++ length register.old ∷ []) }
-    ensures facts_stay { OnErr result (register.new ≡ register.old) }
+    ensures facts { OnOk result (catalog.new ≡ catalog.old ++ made) }
+    ensures marks { OnOk result (marks.new ≡ marks.old ++ length catalog.old ∷ []) }
+    ensures facts_stay { OnErr result (catalog.new ≡ catalog.old) }
     ensures marks_stay { OnErr result (marks.new ≡ marks.old) }
 {
     let count = marks.len();
-    marks.push(register.len() as u64)?;
-    if register.append(made).is_err() {
+    marks.push(catalog.register().len() as u64)?;
+    if catalog.append(made).is_err() {
         marks.truncate(count);
         return Err(AllocError);
     }
@@ -64,13 +64,13 @@ fn push_marked(
 }
 
 /// Takes back the identifier of the last block, its mark, and what stands behind that. It takes no memory.
-pub(crate) fn drop_block(ids: &mut List<Hash>, register: &mut Register, marks: &mut List<u64>)
+pub(crate) fn drop_block(ids: &mut List<Hash>, catalog: &mut Catalog, marks: &mut List<u64>)
     ensures ids { ids.new ≡ take (length ids.old - 1) ids.old }
-    ensures facts { (earlier : Sequence ℕ) (mark : ℕ) → marks.old ≡ earlier ++ mark ∷ [] → register.new ≡ take mark register.old }
+    ensures facts { (earlier : Sequence ℕ) (mark : ℕ) → marks.old ≡ earlier ++ mark ∷ [] → catalog.new ≡ take mark catalog.old }
     ensures marks { (earlier : Sequence ℕ) (mark : ℕ) → marks.old ≡ earlier ++ mark ∷ [] → marks.new ≡ earlier }
 {
     ids.truncate(ids.len().saturating_sub(1));
     if let Some(mark) = marks.pop() {
-        register.truncate(mark as usize);
+        catalog.truncate(mark as usize);
     }
 }

@@ -1,5 +1,5 @@
 //! What a chain made and did, in order, and found by identifier.
-ghost use Rattle.std.specs.Prelude.{◌≡◌, ℕ, ◌-◌, ◌<◌, ◌^◌, ◌%◌, ◌++◌, ◌∷◌, [], List as Sequence, length, take, false, OnOk, OnErr, option_copied, cond, slice_index_or as get_or, IsSome};
+ghost use Rattle.std.specs.Prelude.{◌≡◌, ℕ, ◌+◌, ◌-◌, ◌<◌, ◌^◌, ◌%◌, ◌++◌, ◌∷◌, [], List as Sequence, length, take, drop, not, false, OnOk, OnErr, option_copied, cond, slice_index_or as get_or, IsSome};
 ghost use Rattle.std.specs.Str.{bytes_eq};
 ghost use Rattle.std.specs.HashMap.{get as found_at};
 ghost use Rattle.sia_ledger.specs.declared.fact.Fact.{Fact as Entry};
@@ -146,6 +146,17 @@ impl Register {
                     .wrapping_add(later);
                 funds(&fact.deed).wrapping_mul(since)
             }
+        }
+    }
+
+    /// Whether no fact behind this place is about the same identifier.
+    pub(crate) fn is_last(&self, place: usize) -> bool
+        requires { place < length self.now }
+        ensures { (fact : Entry) → fact ≡ get_or self.now place fact → result ≡ not (is_known (drop (place + 1) self.now) fact.id) }
+    {
+        match self.places.get(&self.facts[place].id) {
+            Some(last) => *last == place as u64,
+            None => false,
         }
     }
 

@@ -1,5 +1,43 @@
-use Rattle.sia_ledger.proofs.Ordered.{ending_nothing}
+use Rattle.std.proofs.Common.{◌≡◌, ◌+◌, ◌<◌, ◌≤◌, ℕ, Option, length, sym, ◌∙◌, arith, subst}
+use Rattle.sia_ledger.proofs.Places.{ending_begins, left_less, left_of, next_ending, none_ending}
 use Rattle.sia_ledger.proofs.ending.ending_of.Goals as goal
 
-pub put_ending-requires : goal.put_ending-requires
-put_ending-requires c = rw c.new-ids.ensures.items (ending_nothing c.args.height)
+pub loop-next-init : goal.loop-next-init
+loop-next-init c = ending_begins c.args.height c.args.fresh.now c.args.kept.now c.last_ending-next.result c.in_ok-ids.ids.items c.last_ending-next.ensures c.in_ok-ids.ensures
+
+pub put_at-requires-clause-within : goal.put_at-requires-clause-within
+put_at-requires-clause-within c =
+    let at = c.loop-next.invariant in
+    rw c.register.ensures (next_ending c.args.height c.args.fresh.now c.args.kept.now at.0 c.in-Some.place at.1 (sym at.2 ∙ c.in-Some.is)).within
+
+pub put_at-requires-clause-put : goal.put_at-requires-clause-put
+put_at-requires-clause-put c =
+    let at = c.loop-next.invariant in
+    rw c.register.ensures (at.3 ∙ (next_ending c.args.height c.args.fresh.now c.args.kept.now at.0 c.in-Some.place at.1 (sym at.2 ∙ c.in-Some.is)).same)
+
+pub ending_before-next-requires : goal.ending_before-next-requires
+ending_before-next-requires c =
+    let at = c.loop-next.invariant in
+    (next_ending c.args.height c.args.fresh.now c.args.kept.now at.0 c.in-Some.place at.1 (sym at.2 ∙ c.in-Some.is)).has
+
+pub loop-next-smaller : goal.loop-next-smaller
+loop-next-smaller c =
+    let at = c.loop-next.invariant in
+    let place = c.in-Some.place in
+    let here = next_ending c.args.height c.args.fresh.now c.args.kept.now at.0 place at.1 (sym at.2 ∙ c.in-Some.is) in
+    let within : place ≤ length c.args.kept.now = omega (arith, here.within) in
+    subst (λ (o : Option ℕ). left_of c.ending_before-next.result < left_of o) (sym c.in-Some.is)
+    (left_less place c.ending_before-next.result (λ q e. (next_ending c.args.height c.args.fresh.now c.args.kept.now place q within (sym c.ending_before-next.ensures ∙ e)).below))
+
+pub loop-next-preserved : goal.loop-next-preserved
+loop-next-preserved c =
+    let at = c.loop-next.invariant in
+    let place = c.in-Some.place in
+    let here = next_ending c.args.height c.args.fresh.now c.args.kept.now at.0 place at.1 (sym at.2 ∙ c.in-Some.is) in
+    let within : place ≤ length c.args.kept.now = omega (arith, here.within) in
+    (place, within, c.ending_before-next.ensures, rw c.register.ensures at c.in_ok-put_at.ensures)
+
+pub returns : goal.returns
+returns c =
+    let at = c.loop-next.invariant in
+    c.from_vec.ensures ∙ at.3 ∙ none_ending c.args.height c.args.fresh.now c.args.kept.now at.0 at.1 (sym at.2 ∙ c.in_default.is)
