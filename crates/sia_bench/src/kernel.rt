@@ -8,27 +8,65 @@ use crate::turns::Crew;
 /// What the program prints where the words are wrong: N is less than 1, or more than 2^20 for a shelf, or there are fewer
 /// threads than 1 or more than 64, or places that no contract has, or pieces that no file is cut into.
 pub(crate) const USAGE: &str =
-    "usage: sia_bench digest FILE N | turn THREADS N | range FILE N | journal FILE N | open FILE | shelf FILE N | roottree PLACES CHANGES WHOLES | pieces FILE K N TIMES";
+    "usage: sia_bench digest FILE N | block FILE N | turn THREADS N | range FILE N | journal FILE N | open FILE | shelf FILE N | roottree PLACES CHANGES WHOLES | pieces FILE K N TIMES | give ADDR SIZE N | take ADDR LIMIT";
 
 /// What to run.
 #[derive(Clone, Copy)]
 pub(crate) enum Kernel<'a> {
     /// Hash the file as many times.
-    Digest { file: &'a str, times: u64 },
+    Digest {
+        file: &'a str,
+        times: u64,
+    },
+    /// Decode, encode and hash the block of the file as many times.
+    Block {
+        file: &'a str,
+        times: u64,
+    },
     /// Let each of the threads take as many turns, and then as many locks.
-    Turn { crew: Crew, times: u64 },
+    Turn {
+        crew: Crew,
+        times: u64,
+    },
     /// Prove and check a range of the file's leaves as many times.
-    Range { file: &'a str, times: u64 },
+    Range {
+        file: &'a str,
+        times: u64,
+    },
     /// Append as many records to the journal of the file.
-    Journal { file: &'a str, times: u64 },
+    Journal {
+        file: &'a str,
+        times: u64,
+    },
     /// Open the journal of the file and read its records.
-    Open { file: &'a str },
+    Open {
+        file: &'a str,
+    },
     /// Put and sync as many sectors in the file.
-    Shelf { file: &'a str, slots: Slots },
+    Shelf {
+        file: &'a str,
+        slots: Slots,
+    },
     /// Change a tree of roots, and hash its list.
-    Tree { changes: Changes },
+    Tree {
+        changes: Changes,
+    },
     /// Cut the file into pieces, and join it of the last ones.
-    Pieces { file: &'a str, cuts: Cuts },
+    Pieces {
+        file: &'a str,
+        cuts: Cuts,
+    },
+    /// Send as many frames with bodies of so many bytes to who connects to the address.
+    Give {
+        address: &'a str,
+        size: usize,
+        times: u64,
+    },
+    /// Take frames from the address to their end.
+    Take {
+        address: &'a str,
+        limit: u64,
+    },
 }
 
 /// The kernel that the words name.
@@ -36,6 +74,15 @@ pub(crate) fn kernel_of(words: &[String]) -> Option<Kernel<'_>> {
     match words {
         [name, file] if name.as_str() == "open" => Some(Kernel::Open {
             file: file.as_str(),
+        }),
+        [name, address, limit] if name.as_str() == "take" => Some(Kernel::Take {
+            address: address.as_str(),
+            limit: limit.as_str().parse().ok()?,
+        }),
+        [name, address, size, times] if name.as_str() == "give" => Some(Kernel::Give {
+            address: address.as_str(),
+            size: size.as_str().parse().ok()?,
+            times: times.as_str().parse().ok()?,
         }),
         [name, on, times] => repeated(name.as_str(), on.as_str(), times.as_str().parse().ok()?),
         [name, places, changes, wholes] if name.as_str() == "roottree" => {
@@ -64,6 +111,7 @@ fn repeated<'a>(name: &str, on: &'a str, times: u64) -> Option<Kernel<'a>> {
     }
     match name {
         "digest" => Some(Kernel::Digest { file: on, times }),
+        "block" => Some(Kernel::Block { file: on, times }),
         "turn" => {
             let crew = Crew::of(on.parse().ok()?)?;
             Some(Kernel::Turn { crew, times })
@@ -85,11 +133,12 @@ mod tests {
 
     #[test]
     fn words_name_a_kernel(rt: HostRuntime) -> Result<(), Fail> {
-        let cases: [(&[&str], bool); 16] = [
+        let cases: [(&[&str], bool); 20] = [
             (&["digest", "abc", "3"], true),
             (&["digest", "abc", "0"], false),
             (&["digest", "abc", "three"], false),
             (&["digests", "abc", "3"], false),
+            (&["block", "abc", "3"], true),
             (&["turn", "65", "3"], false),
             (&["range", "abc", "3"], true),
             (&["journal", "abc", "3"], true),
@@ -102,6 +151,9 @@ mod tests {
             (&["roottree", "0", "10", "1"], false),
             (&["pieces", "abc", "10", "16", "1"], true),
             (&["pieces", "abc", "10", "17", "1"], false),
+            (&["give", "127.0.0.1:80", "100", "3"], true),
+            (&["take", "127.0.0.1:80", "100"], true),
+            (&["take", "127.0.0.1:80", "all"], false),
         ];
         for (line, named) in cases {
             let mut words = Vec::new(rt.alloc());

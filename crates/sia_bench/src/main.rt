@@ -2,6 +2,8 @@
 //!
 //! `sia_bench digest FILE N` reads FILE whole, hashes it N times and prints the last digest in hexadecimal, and how many it
 //! made.
+//! `sia_bench block FILE N` decodes the block that FILE holds N times, encodes it as often, hashes its bytes as often, and prints
+//! how many nanoseconds each of the three took, and how many blocks were decoded and encoded.
 //! `sia_bench turn THREADS N` lets so many threads take N turns each over one counter, and then N locks of std's
 //! `Mutex`, and prints how many nanoseconds each of the two took, and how many turns the counter counted.
 //! `sia_bench journal FILE N` appends N records to the journal of FILE, and prints how many nanoseconds that took, and by
@@ -18,10 +20,16 @@
 //! done, and 1 where the last roots are the same.
 //! `sia_bench pieces FILE K N TIMES` cuts FILE into N pieces TIMES times, and joins it as often of the last K, and prints how
 //! many nanoseconds each of the two took, how many pieces it cut, and the digest of the last one.
+//! `sia_bench give ADDR SIZE N` waits at ADDR for one connection and sends N frames with bodies of SIZE bytes over it, and prints
+//! how many nanoseconds that took, and how many frames it sent.
+//! `sia_bench take ADDR LIMIT` connects to ADDR and takes frames with bodies of at most LIMIT bytes to the end, and prints how
+//! many nanoseconds that took, how many frames came, and how many bytes their bodies have.
 //! Wrong words give status 1, and a file that can't be read status 2.
 #![tactic(auto)]
 
+mod blocks;
 mod cuts;
+mod frames;
 mod kernel;
 mod ranges;
 mod records;
