@@ -2,7 +2,8 @@
 use hex::FromHex;
 use sia_encoding::{Blob, Item, List};
 use sia_records::{
-    actions_fit, changes_of, prepare_read, prepare_write, range_fits, sections_fit, steps_by,
+    PreparedWrite, actions_fit, changes_of, prepare_read, prepare_write, range_fits, sections_fit,
+    steps_by,
 };
 use sia_rhp::{Action, ReadRequest, Section, WriteRequest};
 use std::alloc::{AllocError, Global};
@@ -54,26 +55,55 @@ fn write(alloc: Global) -> Result<WriteRequest, AllocError> {
     })
 }
 
-#[test]
-fn write_is_prepared(rt: HostRuntime) -> Result<(), Fail> {
-    let alloc = rt.alloc();
+/// That write, with the sector that its update changes.
+fn prepared(alloc: Global) -> Result<PreparedWrite, AllocError> {
+    let request = write(alloc)?;
     let mut fetched = List::new(alloc);
     fetched.push(sector(alloc)?)?;
-    let write = prepare_write(alloc, write(alloc)?, fetched)?;
+    prepare_write(alloc, request, fetched)
+}
+
+#[test]
+fn write_is_fit(rt: HostRuntime) -> Result<(), Fail> {
+    let write = prepared(rt.alloc())?;
     assert!(rt; write.fits(SECTOR));
     assert!(rt; !write.fits(2 * SECTOR));
     assert_eq!(rt; write.request().number, 3);
     assert_eq!(rt; write.sectors(), 2);
-    let changes = changes_of(alloc, write.steps(), &[5, 6])?;
-    let mut out = Blob::new(alloc);
+    Ok(())
+}
+
+#[test]
+fn changes_have_roots_and_slots(rt: HostRuntime) -> Result<(), Fail> {
+    let write = prepared(rt.alloc())?;
+    assert!(rt; write.fits(SECTOR));
+    let changes = changes_of(rt.alloc(), write.steps(), &[5, 6])?;
+    let mut out = Blob::new(rt.alloc());
     changes.encode(&mut out)?;
-    assert_eq!(rt; out.as_slice(), hex::decode(alloc, CHANGES)?.as_slice());
-    assert_eq!(rt; steps_by(alloc, changes.as_slice())?.len(), 4);
-    let updates = write.copy(alloc)?.into_updates();
+    assert_eq!(rt;
+        out.as_slice(),
+        hex::decode(rt.alloc(), CHANGES)?.as_slice()
+    );
+    assert_eq!(rt; steps_by(rt.alloc(), changes.as_slice())?.len(), 4);
+    Ok(())
+}
+
+#[test]
+fn update_is_proved(rt: HostRuntime) -> Result<(), Fail> {
+    let write = prepared(rt.alloc())?.copy(rt.alloc())?;
+    assert!(rt; write.fits(SECTOR));
+    let updates = write.into_updates();
     let proof = updates.get(0).ok_or("a proof")?;
     assert_eq!(rt; proof.inner.as_slice(), [hash(LEAVES[1])?].as_slice());
     assert_eq!(rt; proof.outer.as_slice(), [hash(LEAVES[0])?].as_slice());
-    let sectors = write.into_sectors(alloc)?;
+    Ok(())
+}
+
+#[test]
+fn new_sectors_are_put(rt: HostRuntime) -> Result<(), Fail> {
+    let write = prepared(rt.alloc())?;
+    assert!(rt; write.fits(SECTOR));
+    let sectors = write.into_sectors(rt.alloc())?;
     assert_eq!(rt; sectors.len(), 2);
     let updated = sectors.get(1).ok_or("a sector")?;
     assert_eq!(rt; updated.get(63), Some(63));
@@ -81,27 +111,37 @@ fn write_is_prepared(rt: HostRuntime) -> Result<(), Fail> {
     Ok(())
 }
 
-#[test]
-fn read_is_prepared(rt: HostRuntime) -> Result<(), Fail> {
-    let alloc = rt.alloc();
+/// A request for the second leaf of a sector.
+fn request(alloc: Global) -> Result<ReadRequest, AllocError> {
     let section = Section {
         root: [0; 32],
         offset: 64,
         length: 64,
     };
-    let request = ReadRequest {
+    Ok(ReadRequest {
         sections: List::from_slice(alloc, &[section])?,
         number: 3,
         valid: List::new(alloc),
         missed: List::new(alloc),
         signature: Blob::new(alloc),
-    };
+    })
+}
+
+#[test]
+fn numbers_decide(rt: HostRuntime) -> Result<(), Fail> {
     assert!(rt; range_fits(SECTOR, 64, 64) && !range_fits(SECTOR, 128, 64));
-    assert!(rt; sections_fit(SECTOR, request.sections.as_slice()));
     assert!(rt; actions_fit(SECTOR, &[]));
-    let mut fetched = List::new(alloc);
-    fetched.push(sector(alloc)?)?;
-    let read = prepare_read(alloc, request, fetched)?;
+    let request = request(rt.alloc())?;
+    assert!(rt; sections_fit(SECTOR, request.sections.as_slice()));
+    Ok(())
+}
+
+#[test]
+fn read_is_served(rt: HostRuntime) -> Result<(), Fail> {
+    let request = request(rt.alloc())?;
+    let mut fetched = List::new(rt.alloc());
+    fetched.push(sector(rt.alloc())?)?;
+    let read = prepare_read(rt.alloc(), request, fetched)?;
     assert!(rt; read.fits(SECTOR));
     assert_eq!(rt; read.request().number, 3);
     let parts = read.into_parts();

@@ -70,39 +70,64 @@ fn is_spelled(alloc: Global, record: &HostRecord, kind: u8, behind: &[u8]) -> Re
     )
 }
 
+/// The spelling of an empty block behind its kind.
+fn mined(alloc: Global) -> Result<Blob, AllocError> {
+    let mut bytes = Blob::from_slice(alloc, &[7; 32])?;
+    bytes.extend(&[1, 2, 3, 4, 5, 6, 7, 8, 9])?;
+    bytes.extend(&[0; 23])?;
+    Ok(bytes)
+}
+
 #[test]
-fn records_are_spelled_by_their_kinds(rt: HostRuntime) -> Result<(), Fail> {
-    let alloc = rt.alloc();
+fn block_is_spelled(rt: HostRuntime) -> Result<(), Fail> {
     let block = Block {
         parent: [7; 32],
         nonce: [1, 2, 3, 4, 5, 6, 7, 8],
         timestamp: 9,
-        payouts: List::new(alloc),
-        transactions: List::new(alloc),
+        payouts: List::new(rt.alloc()),
+        transactions: List::new(rt.alloc()),
     };
-    let mut mined = Blob::from_slice(alloc, &[7; 32])?;
-    mined.extend(&[1, 2, 3, 4, 5, 6, 7, 8, 9])?;
-    mined.extend(&[0; 23])?;
     let record = HostRecord::Block(block);
-    assert!(rt; is_spelled(alloc, &record, 1, mined.as_slice())?);
-    assert!(rt; is_spelled(alloc, &HostRecord::Revert, 2, &[])?);
-    let formed = HostRecord::Formed {
+    let wanted = mined(rt.alloc())?;
+    assert!(rt; is_spelled(rt.alloc(), &record, 1, wanted.as_slice())?);
+    Ok(())
+}
+
+#[test]
+fn revert_is_spelled(rt: HostRuntime) -> Result<(), Fail> {
+    assert!(rt; is_spelled(rt.alloc(), &HostRecord::Revert, 2, &[])?);
+    assert!(rt; HostRecord::decode(rt.alloc(), &[6], 1_000).is_err());
+    Ok(())
+}
+
+#[test]
+fn formation_is_spelled(rt: HostRuntime) -> Result<(), Fail> {
+    let record = HostRecord::Formed {
         renter_key: [5; 32],
-        transaction: transaction(alloc)?,
+        transaction: transaction(rt.alloc())?,
     };
-    let mut keyed = Blob::from_slice(alloc, &[5; 32])?;
-    keyed.extend(&NOTHING)?;
-    assert!(rt; is_spelled(alloc, &formed, 3, keyed.as_slice())?);
-    let revised = HostRecord::Revised {
-        revision: revision(alloc),
-        renter: Blob::from_slice(alloc, &[1, 2])?,
-        host: Blob::from_slice(alloc, &[3])?,
-        changes: changes(alloc)?,
+    let mut wanted = Blob::from_slice(rt.alloc(), &[5; 32])?;
+    wanted.extend(&NOTHING)?;
+    assert!(rt; is_spelled(rt.alloc(), &record, 3, wanted.as_slice())?);
+    Ok(())
+}
+
+#[test]
+fn revision_is_spelled(rt: HostRuntime) -> Result<(), Fail> {
+    let record = HostRecord::Revised {
+        revision: revision(rt.alloc()),
+        renter: Blob::from_slice(rt.alloc(), &[1, 2])?,
+        host: Blob::from_slice(rt.alloc(), &[3])?,
+        changes: changes(rt.alloc())?,
     };
-    let wanted = hex::decode(alloc, REVISED)?;
-    assert!(rt; is_spelled(alloc, &revised, 4, wanted.as_slice())?);
-    let renewed = HostRecord::Renewed(transaction(alloc)?);
-    assert!(rt; is_spelled(alloc, &renewed, 5, &NOTHING)?);
-    assert!(rt; HostRecord::decode(alloc, &[6], 1_000).is_err());
+    let wanted = hex::decode(rt.alloc(), REVISED)?;
+    assert!(rt; is_spelled(rt.alloc(), &record, 4, wanted.as_slice())?);
+    Ok(())
+}
+
+#[test]
+fn renewal_is_spelled(rt: HostRuntime) -> Result<(), Fail> {
+    let record = HostRecord::Renewed(transaction(rt.alloc())?);
+    assert!(rt; is_spelled(rt.alloc(), &record, 5, &NOTHING)?);
     Ok(())
 }
