@@ -1,0 +1,12 @@
+pub mod Sessions
+pub mod Logs
+pub mod Refusals
+pub mod State
+pub mod Answered
+pub mod Beginning
+pub mod Entering
+pub mod Locking
+pub mod Feeding
+pub mod Signing
+pub mod Forming
+pub mod Answers

@@ -1,0 +1,22 @@
+//! What a host is asked for.
+use sia_rhp::LockRequest;
+use sia_types::Block;
+
+/// What a host is asked for: by sessions, and by the feed of blocks.
+#[derive(Drop)]
+pub enum Command {
+    /// To begin a session.
+    Enter,
+    /// To tell the settings.
+    Settings,
+    /// To let the session hold a contract.
+    Lock(LockRequest),
+    /// To let it hold the contract no more.
+    Unlock,
+    /// To end the session.
+    Leave,
+    /// To put a block behind the last one.
+    Apply(Block),
+    /// To drop the last block.
+    Revert,
+}

@@ -1,0 +1,80 @@
+//! Sessions that begin and end, and the settings.
+ghost use Rattle.std.specs.Prelude.{◌≡◌, ◌≢◌, Err, IfOk, OnErr};
+ghost use Rattle.sia_host.specs.Answered.{Gives};
+ghost use Rattle.sia_host.specs.Entering.{enter_answered, leave_answered, settings_answered};
+
+use crate::call::Call;
+use crate::codes::WRONG_STATE;
+use crate::event::{Kind, Outcome};
+use crate::host_core::Core;
+use crate::reply::Reply;
+use crate::step::Step;
+use sia_rhp::Answer;
+use std::alloc::AllocError;
+
+impl Core {
+    /// A session begins.
+    pub(crate) fn enter(&mut self, worker: u64) -> Result<Step, AllocError>
+        ensures gives { IfOk result (λ step. Gives self.old (enter_answered self.old worker) step self.new) }
+        ensures kept { OnErr result (self.new ≡ self.old) }
+    {
+        let Some(session) = self.log.entered().checked_add(1) else {
+            return Err(AllocError);
+        };
+        let challenge = self.log.next_challenge();
+        let call = Call {
+            worker,
+            session,
+            kind: Kind::Enter,
+        };
+        self.answer(
+            call,
+            None,
+            Outcome::Fine,
+            Reply::Entered { session, challenge },
+        )
+    }
+
+    /// A session ends. It takes no memory.
+    pub(crate) fn leave(&mut self, worker: u64, session: u64) -> Step
+        ensures { Gives self.old (leave_answered self.old worker session) result self.new }
+    {
+        let Some(live) = self.log.session(session) else {
+            return Step {
+                reply: Reply::Error { code: WRONG_STATE },
+                payload: None,
+            };
+        };
+        let call = Call {
+            worker,
+            session,
+            kind: Kind::Leave,
+        };
+        let held = live.held;
+        let event = self.event(call, held, Outcome::Fine);
+        self.log.note_leave(event);
+        Step {
+            reply: Reply::Applied,
+            payload: None,
+        }
+    }
+
+    /// The settings are told.
+    pub(crate) fn tell_settings(&mut self, worker: u64, session: u64) -> Result<Step, AllocError>
+        ensures gives { IfOk result (λ step. Gives self.old (settings_answered self.old worker session) step self.new) }
+        ensures kept { OnErr result (self.new ≡ self.old) }
+    {
+        let settings = self.settings_now();
+        let call = Call {
+            worker,
+            session,
+            kind: Kind::Settings,
+        };
+        self.answer(
+            call,
+            None,
+            Outcome::Fine,
+            Reply::Said(Answer::Settings(settings)),
+        )
+    }
+}

@@ -1,0 +1,207 @@
+//! The host, and what it keeps.
+ghost use Rattle.std.specs.Prelude.{◌≡◌, ℕ, [], ◌∷◌, ◌++◌, None, Some, IfOk, OnOk, OnErr, option_copied};
+ghost use Rattle.sia_encoding.specs.Answer.{Answers as Tells, itself, unless};
+ghost use Rattle.sia_ledger.specs.Chain.{begun};
+ghost use Rattle.sia_ledger.specs.Genesis.{genesis_refusal};
+ghost use Rattle.sia_ledger.specs.Holdings.{sums_of, tip as tip_so};
+ghost use Rattle.sia_host.specs.declared.event.Outcome.TheVariants as outcome;
+ghost use Rattle.sia_host.specs.declared.reply.Reply.TheVariants as reply;
+ghost use Rattle.sia_host.specs.State.{Kept, first_state};
+ghost use Rattle.sia_host.specs.Answered.{Gives, Host, answered, contract_now, event_of, held_now, idle_now, refused, settings_now};
+ghost use Rattle.sia_host.specs.Beginning.{core_told};
+ghost use Rattle.sia_host.specs.Refusals.{code_told};
+
+use crate::call::Call;
+use crate::codes::{NO_CONTRACT, WRONG_STATE};
+use crate::config::{CoreConfig, CoreFault};
+use crate::event::{Event, Kind, Outcome};
+use crate::kept::{KeptContract, find_contract};
+use crate::log::Log;
+use crate::refusal::Refusal;
+use crate::reply::Reply;
+use crate::session::Session;
+use crate::step::Step;
+use sia_blake::Hash;
+use sia_ledger::{GenesisFault, Ledger, Params, Sums};
+use sia_types::{List, Settings};
+use std::alloc::{AllocError, Global};
+use std::marker::Model;
+
+/// A host: its chain, its contracts and its sessions. Contracts see its settings, its margin and its seed, what it knows by its
+/// records, and the events of this run.
+#[derive(Drop)]
+pub struct Core {
+    pub(crate) settings: Settings,
+    pub(crate) margin: u64,
+    pub(crate) ledger: Ledger,
+    pub(crate) contracts: List<KeptContract>,
+    pub(crate) records: u64,
+    pub(crate) log: Log,
+}
+
+impl Model for Core {
+    ghost use Rattle.sia_host.specs.Answered.{Host};
+
+    ghost Value = { Host };
+
+    ghost view = { λ c. record { settings = c.settings; margin = c.margin; seed = c.log.seed; state = record { chain = c.ledger; contracts = c.contracts; count = c.records }; events = c.log.events } };
+}
+
+impl Core {
+    /// A host that begins: no block, no contract and no session.
+    ///
+    /// # Errors
+    /// [`CoreFault::Genesis`] exactly where the chain's genesis is refused, or want of memory.
+    pub fn new(alloc: Global, config: CoreConfig, seed: [u8; 32]) -> Result<Core, CoreFault>
+        ensures judged { Tells (λ _. tt) core_told result (unless (genesis_refusal config.params)) }
+        ensures begun { IfOk result (λ core. core ≡ record { settings = config.settings; margin = config.margin; seed = seed; state = first_state config.params; events = [] }) }
+    {
+        let CoreConfig {
+            params,
+            settings,
+            margin,
+        } = config;
+        let ledger = begin_ledger(alloc, params)?;
+        Ok(Core {
+            settings,
+            margin,
+            ledger,
+            contracts: List::new(alloc),
+            records: 0,
+            log: Log::new(alloc, seed),
+        })
+    }
+
+    /// The events of this run, in order.
+    pub fn events(&self) -> &[Event]
+        ensures { result.now ≡ self.now.events }
+    {
+        self.log.events()
+    }
+
+    /// What the chain holds.
+    pub fn sums(&self) -> Sums
+        ensures { result ≡ sums_of self.now.state.chain }
+    {
+        self.ledger.sums()
+    }
+
+    /// The identifier of the chain's last block.
+    pub fn tip(&self) -> Hash
+        ensures { result ≡ tip_so self.now.state.chain }
+    {
+        self.ledger.tip()
+    }
+
+    /// How many records the host has kept, as far as a number of 64 bits goes.
+    pub fn records(&self) -> u64
+        ensures { result ≡ self.now.state.count }
+    {
+        self.records
+    }
+
+    /// The settings, with the height of the chain.
+    pub(crate) fn settings_now(&self) -> Settings
+        ensures { result ≡ settings_now self.now }
+    {
+        Settings {
+            height: self.ledger.height(),
+            ..self.settings
+        }
+    }
+
+    /// The session with this number, which is to be live and to hold no contract.
+    pub(crate) fn idle(&self, number: u64) -> Result<&Session, Refusal>
+        ensures { Tells (λ session. session.now) code_told result (idle_now self.now number) }
+    {
+        let Some(session) = self.log.session(number) else {
+            return Err(Refusal::Code(WRONG_STATE));
+        };
+        match session.held {
+            None => Ok(session),
+            Some(_) => Err(Refusal::Code(WRONG_STATE)),
+        }
+    }
+
+    /// The contract that a session holds.
+    pub(crate) fn held(&self, number: u64) -> Option<Hash>
+        ensures { result ≡ held_now self.now number }
+    {
+        let session = self.log.session(number)?;
+        session.held
+    }
+
+    /// The contract with this identifier, which the host is to know.
+    pub(crate) fn contract(&self, id: &Hash) -> Result<&KeptContract, Refusal>
+        ensures { Tells (λ c. c.now) code_told result (contract_now self.now id.now) }
+    {
+        match find_contract(&self.contracts, id) {
+            None => Err(Refusal::Code(NO_CONTRACT)),
+            Some(contract) => Ok(contract),
+        }
+    }
+
+    /// Notes the event of a call that makes no record, and replies.
+    pub(crate) fn answer(
+        &mut self,
+        call: Call,
+        contract: Option<Hash>,
+        outcome: Outcome,
+        reply: Reply,
+    ) -> Result<Step, AllocError>
+        ensures gives { IfOk result (λ step. Gives self.old (answered self.old call contract outcome reply None) step self.new) }
+        ensures kept { OnErr result (self.new ≡ self.old) }
+    {
+        self.log.reserve()?;
+        let event = self.event(call, contract, outcome);
+        self.log.note(event);
+        Ok(Step {
+            reply,
+            payload: None,
+        })
+    }
+
+    /// Notes the event of a call that is refused, and replies its code.
+    pub(crate) fn refuse(
+        &mut self,
+        call: Call,
+        contract: Option<Hash>,
+        code: u64,
+    ) -> Result<Step, AllocError>
+        ensures gives { IfOk result (λ step. Gives self.old (refused self.old call contract code) step self.new) }
+        ensures kept { OnErr result (self.new ≡ self.old) }
+    {
+        self.answer(
+            call,
+            contract,
+            Outcome::Code(code),
+            Reply::Error { code },
+        )
+    }
+
+    /// The event of a call, with as many records as there are.
+    pub(crate) fn event(&self, call: Call, contract: Option<Hash>, outcome: Outcome) -> Event
+        ensures { result ≡ event_of self.now call contract outcome None }
+    {
+        Event {
+            worker: call.worker,
+            session: call.session,
+            kind: call.kind,
+            contract,
+            outcome,
+            records: self.records,
+        }
+    }
+}
+
+// The ledger of a chain without a block.
+fn begin_ledger(alloc: Global, params: Params) -> Result<Ledger, CoreFault>
+    ensures judged { Tells (λ _. tt) core_told result (unless (genesis_refusal params)) }
+    ensures begun { IfOk result (λ ledger. ledger ≡ begun params) }
+{
+    match Ledger::genesis(alloc, params) {
+        Ok(ledger) => Ok(ledger),
+        Err(GenesisFault::Memory) => Err(CoreFault::Memory),
+        Err(fault) => Err(CoreFault::Genesis(fault)),
+    }
+}

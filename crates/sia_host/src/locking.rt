@@ -1,0 +1,151 @@
+//! The lock of a contract.
+ghost use Rattle.std.specs.Prelude.{◌≡◌, ◌++◌, codes, None, Some, IfOk, OnErr};
+ghost use Rattle.sia_blake.specs.Blake2b.{blake2b_256};
+ghost use Rattle.sia_encoding.specs.Answer.{Answers as Tells};
+ghost use Rattle.sia_host.specs.Answered.{Gives};
+ghost use Rattle.sia_host.specs.Locking.{lock_acquired, lock_answered, lock_hash as lock_hash_so, lock_judged, lock_missed, unlock_answered};
+ghost use Rattle.sia_host.specs.Refusals.{code_told};
+
+use crate::call::Call;
+use crate::codes::{BAD_SIGNATURE, WRONG_STATE};
+use crate::event::{Kind, Outcome};
+use crate::host_core::Core;
+use crate::kept::KeptContract;
+use crate::refusal::Refusal;
+use crate::reply::Reply;
+use crate::step::Step;
+use sia_blake::{Hash, Hasher};
+use sia_edge::SigCheck;
+use sia_rhp::{Answer, LockAnswer, LockRequest};
+use sia_types::{Item, List};
+use std::alloc::{AllocError, Global};
+
+/// The label of what a request for a lock signs, filled with zero bytes to 16.
+const SIA_CHALLENGE: [u8; 16] = *b"sia challenge\0\0\0";
+
+impl Core {
+    /// A session asks for the lock of a contract.
+    pub(crate) fn lock<C: SigCheck>(
+        &mut self,
+        alloc: Global,
+        worker: u64,
+        session: u64,
+        request: &LockRequest,
+        check: &C,
+    ) -> Result<Step, AllocError>
+        ensures gives { IfOk result (λ step. Gives self.old (lock_answered C.verdict self.old worker session request.now) step self.new) }
+        ensures kept { OnErr result (self.new ≡ self.old) }
+    {
+        let call = Call {
+            worker,
+            session,
+            kind: Kind::Lock,
+        };
+        let id = request.contract;
+        let holder = self.log.holder(&id);
+        let contract = match self.judge_lock(session, request, check) {
+            Err(Refusal::Memory) => return Err(AllocError),
+            Err(Refusal::Code(code)) => return self.refuse(call, Some(id), code),
+            Ok(contract) => contract,
+        };
+        match holder {
+            Some(holder) => {
+                let missed = self.missed(alloc, holder);
+                self.answer(
+                    call,
+                    Some(id),
+                    Outcome::Held(holder),
+                    Reply::Said(Answer::Lock(missed)),
+                )
+            }
+            None => {
+                let acquired = self.acquired(alloc, contract)?;
+                self.answer(
+                    call,
+                    Some(id),
+                    Outcome::Fine,
+                    Reply::Said(Answer::Lock(acquired)),
+                )
+            }
+        }
+    }
+
+    /// A session gives its lock back.
+    pub(crate) fn unlock(&mut self, worker: u64, session: u64) -> Result<Step, AllocError>
+        ensures gives { IfOk result (λ step. Gives self.old (unlock_answered self.old worker session) step self.new) }
+        ensures kept { OnErr result (self.new ≡ self.old) }
+    {
+        let call = Call {
+            worker,
+            session,
+            kind: Kind::Unlock,
+        };
+        match self.held(session) {
+            None => self.refuse(call, None, WRONG_STATE),
+            Some(id) => self.answer(
+                call,
+                Some(id),
+                Outcome::Fine,
+                Reply::Said(Answer::Unlock),
+            ),
+        }
+    }
+
+    // The contract that a session may lock, if nobody holds it.
+    fn judge_lock<C: SigCheck>(
+        &self,
+        session: u64,
+        request: &LockRequest,
+        check: &C,
+    ) -> Result<&KeptContract, Refusal>
+        ensures { Tells (λ c. c.now) code_told result (lock_judged C.verdict self.now session request.now) }
+    {
+        let live = self.idle(session)?;
+        let contract = self.contract(&request.contract)?;
+        let hash = lock_hash(&live.challenge, &request.contract);
+        if !check.accepts(&contract.renter_key, &hash, request.signature.as_slice()) {
+            return Err(Refusal::Code(BAD_SIGNATURE));
+        }
+        Ok(contract)
+    }
+
+    // The answer to a lock that is acquired.
+    fn acquired(&self, alloc: Global, contract: &KeptContract) -> Result<LockAnswer, AllocError>
+        ensures { IfOk result (λ answer. answer ≡ lock_acquired self.now contract.now) }
+    {
+        let challenge = self.log.next_challenge();
+        Ok(LockAnswer {
+            acquired: true,
+            holder: 0,
+            challenge,
+            newest: Some(contract.newest.copy(alloc)?),
+            signatures: Item::copy(&contract.signatures, alloc)?,
+        })
+    }
+
+    // The answer to a lock that a session holds.
+    fn missed(&self, alloc: Global, holder: u64) -> LockAnswer
+        ensures { result ≡ lock_missed self.now holder }
+    {
+        let challenge = self.log.next_challenge();
+        LockAnswer {
+            acquired: false,
+            holder,
+            challenge,
+            newest: None,
+            signatures: List::new(alloc),
+        }
+    }
+}
+
+// What a request for a lock signs.
+#[tactic(auto, unfolding(crate::specs::Locking::lock_hash))]
+fn lock_hash(challenge: &[u8; 16], contract: &Hash) -> Hash
+    ensures { result ≡ lock_hash_so challenge.now contract.now }
+{
+    let mut hasher = Hasher::new();
+    hasher.update(&SIA_CHALLENGE);
+    hasher.update(challenge);
+    hasher.update(contract);
+    hasher.finish()
+}

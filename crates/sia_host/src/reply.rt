@@ -1,0 +1,28 @@
+//! What a host replies.
+use sia_rhp::Answer;
+use sia_rules::BlockFault;
+
+/// What a host replies to a command.
+#[derive(Drop)]
+pub enum Reply {
+    /// A session began.
+    Entered {
+        /// Its number.
+        session: u64,
+        /// What its first request for a lock signs.
+        challenge: [u8; 16],
+    },
+    /// It was done.
+    Applied,
+    /// The block breaks this rule.
+    Refused(BlockFault),
+    /// There is no block to be reverted.
+    NoBlock,
+    /// The answer to a session's request, which is no error.
+    Said(Answer),
+    /// The command was refused.
+    Error {
+        /// Its code.
+        code: u64,
+    },
+}
