@@ -47,25 +47,24 @@ rule_number block_fault.Memory = 0
 abbrev pub no_session : ℕ
 no_session = 0
 
--- a command that makes a record and is answered so, if the journal has room for it
-abbrev pub recorded_if : Host → Room → Call → HostRecord → Answered
-recorded_if h room call made =
-    if lacks_room room made then refused h call None STORE_FULL else answered h call None outcome.Fine reply.Applied (Some made)
+-- a command that makes a record is answered so, where the journal may be full for it
+abbrev pub recorded_unless : Host → Bool → Call → HostRecord → Answered
+recorded_unless h full call made = if full then refused h call None STORE_FULL else answered h call None outcome.Fine reply.Applied (Some made)
 
 -- what follows from the rule that a block breaks, or from none
-abbrev pub apply_given : Host → Room → Call → Block → Option BlockFault → Answered
-apply_given h room call block (Some fault) = answered h call None (outcome.Block (rule_number fault)) (reply.Refused fault) None
-apply_given h room call block None = recorded_if h room call (records.Block block)
+abbrev pub apply_given : Host → Bool → Call → Block → Option BlockFault → Answered
+apply_given h full call block (Some fault) = answered h call None (outcome.Block (rule_number fault)) (reply.Refused fault) None
+apply_given h full call block None = recorded_unless h full call (records.Block block)
 
 -- a block is put behind the last one; first it is judged, and then room is sought
 abbrev pub apply_answered : (List ℕ → List ℕ → List ℕ → Bool) → Host → Room → ℕ → Block → Answered
 apply_answered accepts h room worker block =
-    apply_given h room (record { worker = worker; session = no_session; kind = kind.Apply }) block (refusal accepts h.state.chain block)
+    apply_given h (lacks_room room (records.Block block)) (record { worker = worker; session = no_session; kind = kind.Apply }) block (refusal accepts h.state.chain block)
 
 -- what follows from how many blocks there are
 abbrev pub revert_given : Host → Room → Call → ℕ → Answered
 revert_given h room call zero = answered h call None outcome.NoBlock reply.NoBlock None
-revert_given h room call (suc below) = recorded_if h room call records.Revert
+revert_given h room call (suc below) = recorded_unless h (lacks_room room records.Revert) call records.Revert
 
 -- the last block is dropped
 abbrev pub revert_answered : Host → Room → ℕ → Answered

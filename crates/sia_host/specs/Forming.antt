@@ -134,6 +134,6 @@ abbrev pub IsFormSigned : (List ℕ → List ℕ → List ℕ → Bool) → (Lis
 IsFormSigned accepts Signs h room worker session request renter a =
     let call : Call = record { worker = worker; session = session; kind = kind.FormSign } in
     IsProposed h call None request.transaction (form_judged h session request)
-      (λ added a. (host : List Signature) × AreSignedInputs Signs (joined request.transaction added) added.inputs host
-        × (a ≡ form_kept accepts h room call request.renter_key (finished request.transaction added renter host) host))
-      a
+    (λ added a. (host : List Signature) × AreSignedInputs Signs (joined request.transaction added) added.inputs host
+    × (a ≡ form_kept accepts h room call request.renter_key (finished request.transaction added renter host) host))
+    a

@@ -6,8 +6,10 @@ ghost use Rattle.sia_ledger.specs.Refusal.{refusal};
 ghost use Rattle.sia_records.specs.declared.host_record.HostRecord.TheVariants as records;
 ghost use Rattle.sia_types.specs.declared.block.Block.{Block as Mined};
 ghost use Rattle.sia_rules.specs.Answers.{block_told};
-ghost use Rattle.sia_host.specs.Answered.{Gives, payload_of};
-ghost use Rattle.sia_host.specs.Feeding.{apply_answered, no_session, revert_answered, rule_number as rule_number_so};
+ghost use Rattle.sia_host.specs.declared.event.Outcome.TheVariants as outcome;
+ghost use Rattle.sia_host.specs.declared.reply.Reply.TheVariants as reply;
+ghost use Rattle.sia_host.specs.Answered.{Gives, answered, payload_of};
+ghost use Rattle.sia_host.specs.Feeding.{apply_answered, apply_given, no_session, revert_answered, rule_number as rule_number_so};
 
 use crate::call::Call;
 use crate::codes::STORE_FULL;
@@ -43,7 +45,6 @@ pub(crate) fn lacks_room(room: &Room, framed: &RecordBuf) -> bool
 
 impl Core {
     /// A block is put behind the last one.
-    #[tactic(none)]
     pub(crate) fn apply<C: SigCheck>(
         &mut self,
         alloc: Global,
@@ -55,29 +56,89 @@ impl Core {
         ensures gives { IfOk result (λ step. Gives self.old (apply_answered C.verdict self.old room.now worker block) step self.new) }
         ensures kept { OnErr result (self.new ≡ self.old) }
     {
-        let call = feed_call(worker, Kind::Apply);
         let made = HostRecord::Block(block);
-        let framed = frame(alloc, &made)?;
-        let full = lacks_room(room, &framed);
+        self.apply_made(alloc, room, worker, &made, block_of(&made), check)
+    }
+
+    // The block of a record is put behind the last one.
+    fn apply_made<C: SigCheck>(
+        &mut self,
+        alloc: Global,
+        room: &Room,
+        worker: u64,
+        made: &HostRecord,
+        block: &Block,
+        check: &C,
+    ) -> Result<Step, AllocError>
+        requires { made.now ≡ records.Block block.now }
+        ensures gives { IfOk result (λ step. Gives self.old (apply_answered C.verdict self.old room.now worker block.now) step self.new) }
+        ensures kept { OnErr result (self.new ≡ self.old) }
+    {
+        let call = feed_call(worker, Kind::Apply);
+        let framed = frame(alloc, made)?;
+        if lacks_room(room, &framed) {
+            return self.apply_full(alloc, call, block, check);
+        }
+        self.apply_fit(alloc, call, block, framed, check)
+    }
+
+    // The answer to a block for which the journal is full.
+    fn apply_full<C: SigCheck>(
+        &mut self,
+        alloc: Global,
+        call: Call,
+        block: &Block,
+        check: &C,
+    ) -> Result<Step, AllocError>
+        ensures gives { IfOk result (λ step. Gives self.old (apply_given self.old true call block.now (refusal C.verdict self.old.state.chain block.now)) step self.new) }
+        ensures kept { OnErr result (self.new ≡ self.old) }
+    {
+        match judge_block(alloc, &self.ledger, block, check)? {
+            Some(fault) => self.refuse_block(call, fault),
+            None => self.refuse(call, None, STORE_FULL),
+        }
+    }
+
+    // The answer to a block for which the journal has room.
+    #[tactic(auto, unfolding(crate::specs::State::after_record))]
+    fn apply_fit<C: SigCheck>(
+        &mut self,
+        alloc: Global,
+        call: Call,
+        block: &Block,
+        framed: RecordBuf,
+        check: &C,
+    ) -> Result<Step, AllocError>
+        requires { framed ≡ payload_of (records.Block block.now) }
+        ensures gives { IfOk result (λ step. Gives self.old (apply_given self.old false call block.now (refusal C.verdict self.old.state.chain block.now)) step self.new) }
+        ensures kept { OnErr result (self.new ≡ self.old) }
+    {
         self.log.reserve()?;
-        if let Some(fault) = offer(alloc, &mut self.ledger, block_of(&made), full, check)? {
-            let number = rule_number(&fault);
-            return self.answer(call, None, Outcome::Block(number), Reply::Refused(fault));
+        match put_block(alloc, &mut self.ledger, block, check)? {
+            Some(fault) => self.refuse_block(call, fault),
+            None => {
+                self.records = self.records.saturating_add(1);
+                let event = self.event(call, None, Outcome::Fine);
+                self.log.note(event);
+                Ok(Step {
+                    reply: Reply::Applied,
+                    payload: Some(framed),
+                })
+            }
         }
-        if full {
-            return self.refuse(call, None, STORE_FULL);
-        }
-        self.records = self.records.saturating_add(1);
-        let event = self.event(call, None, Outcome::Fine);
-        self.log.note(event);
-        Ok(Step {
-            reply: Reply::Applied,
-            payload: Some(framed),
-        })
+    }
+
+    // A block is refused, by the rule that it breaks.
+    fn refuse_block(&mut self, call: Call, fault: BlockFault) -> Result<Step, AllocError>
+        ensures gives { IfOk result (λ step. Gives self.old (answered self.old call None (outcome.Block (rule_number_so fault)) (reply.Refused fault) None) step self.new) }
+        ensures kept { OnErr result (self.new ≡ self.old) }
+    {
+        let number = rule_number(&fault);
+        self.answer(call, None, Outcome::Block(number), Reply::Refused(fault))
     }
 
     /// The last block is dropped.
-    #[tactic(none)]
+    #[tactic(auto, unfolding(crate::specs::State::after_record))]
     pub(crate) fn revert(
         &mut self,
         alloc: Global,
@@ -129,38 +190,54 @@ fn feed_call(worker: u64, kind: Kind) -> Call
     }
 }
 
-// The rule that a block breaks. Where it breaks none it is put behind the last one, but if the journal is full.
-fn offer<C: SigCheck>(
+// The rule that a block breaks, if it breaks one.
+#[tactic(auto, using(crate::proofs::Judged::fault_said, crate::proofs::Judged::nothing_said))]
+fn judge_block<C: SigCheck>(
     alloc: Global,
-    ledger: &mut Ledger,
+    ledger: &Ledger,
     block: &Block,
-    full: bool,
     check: &C,
 ) -> Result<Option<BlockFault>, AllocError>
-    ensures judged { IfOk result (λ fault. fault ≡ refusal C.verdict ledger.old block.now) }
-    ensures put { result ≡ Ok None → full ≡ false → ledger.new ≡ extended ledger.old block.now }
-    ensures full { full ≡ true → ledger.new ≡ ledger.old }
-    ensures broken { IfOk result (λ fault. IsSome fault → ledger.new ≡ ledger.old) }
-    ensures err { OnErr result (ledger.new ≡ ledger.old) }
+    ensures { IfOk result (λ fault. fault ≡ refusal C.verdict ledger.now block.now) }
 {
-    let judged = if full {
-        judge_counted::<C, Brand>(alloc, ledger, block, check, Blank::new(1))
-    } else {
-        apply_counted::<C, Brand>(alloc, ledger, block, check, Blank::new(1))
-    };
-    match judged {
+    match judge_counted::<C, Brand>(alloc, ledger, block, check, Blank::new(1)) {
         Ok(()) => Ok(None),
-        Err(fault) => broken_rule(fault),
+        Err(fault) => match told(fault) {
+            None => Err(AllocError),
+            Some(broken) => Ok(Some(broken)),
+        },
     }
 }
 
-// The fault of a block, or want of memory.
-fn broken_rule(fault: BlockFault) -> Result<Option<BlockFault>, AllocError>
-    ensures { MatchResult result (λ broken. (broken ≡ block_told fault) × IsSome broken) (λ _. block_told fault ≡ None) }
+// The rule that a block breaks; where it breaks none, it is put behind the last one.
+#[tactic(auto, using(crate::proofs::Judged::fault_said, crate::proofs::Judged::nothing_said))]
+fn put_block<C: SigCheck>(
+    alloc: Global,
+    ledger: &mut Ledger,
+    block: &Block,
+    check: &C,
+) -> Result<Option<BlockFault>, AllocError>
+    ensures judged { IfOk result (λ fault. fault ≡ refusal C.verdict ledger.old block.now) }
+    ensures put { IfOk result (λ fault. fault ≡ None → ledger.new ≡ extended ledger.old block.now) }
+    ensures broken { IfOk result (λ fault. IsSome fault → ledger.new ≡ ledger.old) }
+    ensures err { OnErr result (ledger.new ≡ ledger.old) }
+{
+    match apply_counted::<C, Brand>(alloc, ledger, block, check, Blank::new(1)) {
+        Ok(()) => Ok(None),
+        Err(fault) => match told(fault) {
+            None => Err(AllocError),
+            Some(broken) => Ok(Some(broken)),
+        },
+    }
+}
+
+// The fault of a block that is told: any but want of memory.
+fn told(fault: BlockFault) -> Option<BlockFault>
+    ensures { result ≡ block_told fault }
 {
     match fault {
-        BlockFault::Memory => Err(AllocError),
-        _ => Ok(Some(fault)),
+        BlockFault::Memory => None,
+        _ => Some(fault),
     }
 }
 

@@ -171,12 +171,7 @@ impl Core {
         ensures gives { IfOk result (λ step. Gives self.old (refused self.old call contract code) step self.new) }
         ensures kept { OnErr result (self.new ≡ self.old) }
     {
-        self.answer(
-            call,
-            contract,
-            Outcome::Code(code),
-            Reply::Error { code },
-        )
+        self.answer(call, contract, Outcome::Code(code), Reply::Error { code })
     }
 
     /// The event of a call, with as many records as there are.

@@ -1,4 +1,29 @@
-//! The host's core.
+//! The host's core: what a host answers to each command, and what it keeps.
+//!
+//! A host holds contracts with renters, and a session that has a contract's lock may work with it (RHP2; siad's modules/host and
+//! modules/negotiate.go). A command is answered by one reply, one event and at most one record of the journal; what the host knows
+//! is the fold of its records. Events, records, codes and the challenge are this project's own. So far sessions, locks and the
+//! blocks of the chain have calls; contracts are formed by no command yet.
+//!
+//! ```
+//! let mut core = Core::new(alloc, config, seed)?;
+//! let step = core.step(alloc, worker, session, Command::Lock(request), &room, &check)?;
+//! let told = core.events();
+//! ```
+//!
+//! # Promises
+//!
+//! - [`Core::new`] begins without a block, a contract and a session, or answers exactly the fault of the chain's genesis.
+//! - [`Core::step`] gives exactly the reply, the event and at most the one record that the definitions say of what the host knows,
+//!   of its events and of the journal's room, and the host is then what these make of it. A lock is acquired only where no session
+//!   holds the contract; a leave frees what its session held, and always has memory. After want of memory all is as before.
+//! - [`Core::events`], [`Core::sums`], [`Core::tip`] and [`Core::records`] are those of the present host.
+//!
+//! # Stands on
+//!
+//! sia_ledger for the chain, sia_records and sia_journal for records and their frames, sia_rhp for requests and answers, sia_forms for
+//! the parties' conditions, sia_ids, sia_blake and sia_edge for identifiers, challenges and signatures, sia_types, sia_rules and
+//! sia_encoding for what all of these say.
 #![tactic(auto)]
 
 mod call;

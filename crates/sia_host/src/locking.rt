@@ -1,9 +1,10 @@
 //! The lock of a contract.
-ghost use Rattle.std.specs.Prelude.{◌≡◌, ◌++◌, codes, None, Some, IfOk, OnErr};
+ghost use Rattle.std.specs.Prelude.{◌≡◌, ◌++◌, codes, None, Some, Ok, IfOk, OnErr};
 ghost use Rattle.sia_blake.specs.Blake2b.{blake2b_256};
 ghost use Rattle.sia_encoding.specs.Answer.{Answers as Tells};
-ghost use Rattle.sia_host.specs.Answered.{Gives};
-ghost use Rattle.sia_host.specs.Locking.{lock_acquired, lock_answered, lock_hash as lock_hash_so, lock_judged, lock_missed, unlock_answered};
+ghost use Rattle.sia_host.specs.Answered.{Gives, holder_now};
+ghost use Rattle.sia_host.specs.State.{Kept};
+ghost use Rattle.sia_host.specs.Locking.{lock_acquired, lock_answered, lock_given, lock_hash as lock_hash_so, lock_judged as lock_judged_so, lock_missed, unlock_answered};
 ghost use Rattle.sia_host.specs.Refusals.{code_told};
 
 use crate::call::Call;
@@ -42,31 +43,44 @@ impl Core {
             kind: Kind::Lock,
         };
         let id = request.contract;
-        let holder = self.log.holder(&id);
-        let contract = match self.judge_lock(session, request, check) {
-            Err(Refusal::Memory) => return Err(AllocError),
-            Err(Refusal::Code(code)) => return self.refuse(call, Some(id), code),
-            Ok(contract) => contract,
-        };
-        match holder {
+        match self.judge_lock(session, request, check) {
+            Err(Refusal::Memory) => Err(AllocError),
+            Err(Refusal::Code(code)) => self.refuse(call, Some(id), code),
+            Ok(contract) => {
+                let answer = self.acquired(alloc, contract)?;
+                self.lock_judged(alloc, call, &id, answer)
+            }
+        }
+    }
+
+    // The answer to a request for a lock that was judged, where it would be this one if nobody holds the contract.
+    fn lock_judged(
+        &mut self,
+        alloc: Global,
+        call: Call,
+        id: &Hash,
+        acquired: LockAnswer,
+    ) -> Result<Step, AllocError>
+        ensures gives { (contract : Kept) → acquired ≡ lock_acquired self.old contract → IfOk result (λ step. Gives self.old (lock_given self.old call id.now (Ok contract) (holder_now self.old id.now)) step self.new) }
+        ensures kept { OnErr result (self.new ≡ self.old) }
+    {
+        let named = *id;
+        match self.log.holder(id) {
             Some(holder) => {
                 let missed = self.missed(alloc, holder);
                 self.answer(
                     call,
-                    Some(id),
+                    Some(named),
                     Outcome::Held(holder),
                     Reply::Said(Answer::Lock(missed)),
                 )
             }
-            None => {
-                let acquired = self.acquired(alloc, contract)?;
-                self.answer(
-                    call,
-                    Some(id),
-                    Outcome::Fine,
-                    Reply::Said(Answer::Lock(acquired)),
-                )
-            }
+            None => self.answer(
+                call,
+                Some(named),
+                Outcome::Fine,
+                Reply::Said(Answer::Lock(acquired)),
+            ),
         }
     }
 
@@ -82,12 +96,7 @@ impl Core {
         };
         match self.held(session) {
             None => self.refuse(call, None, WRONG_STATE),
-            Some(id) => self.answer(
-                call,
-                Some(id),
-                Outcome::Fine,
-                Reply::Said(Answer::Unlock),
-            ),
+            Some(id) => self.answer(call, Some(id), Outcome::Fine, Reply::Said(Answer::Unlock)),
         }
     }
 
@@ -98,7 +107,7 @@ impl Core {
         request: &LockRequest,
         check: &C,
     ) -> Result<&KeptContract, Refusal>
-        ensures { Tells (λ c. c.now) code_told result (lock_judged C.verdict self.now session request.now) }
+        ensures { Tells (λ c. c.now) code_told result (lock_judged_so C.verdict self.now session request.now) }
     {
         let live = self.idle(session)?;
         let contract = self.contract(&request.contract)?;

@@ -1,16 +1,20 @@
 //! The answer to each command.
-ghost use Rattle.std.specs.Prelude.{◌≡◌, ℕ, List as Sequence, Ok, Err, false, IfOk, OnErr};
-ghost use Rattle.sia_host.specs.Answers.{Answers, IsAnswer, is_leave};
+ghost use Rattle.std.specs.Prelude.{◌≡◌, false, IfOk, OnErr};
+ghost use Rattle.sia_host.specs.Answered.{Gives};
+ghost use Rattle.sia_host.specs.Answers.{answer_to, is_leave};
 
 use crate::command::Command;
 use crate::host_core::Core;
 use crate::step::{Room, Step};
-use sia_edge::{SigCheck, Signer};
+use sia_edge::SigCheck;
 use std::alloc::{AllocError, Global};
 
 impl Core {
-    /// Answers a command of a worker and a session.
-    pub fn step<C: SigCheck, G: Signer>(
+    /// Answers a command of a worker and a session, in the room that the journal has left; the check judges signatures. It notes an
+    /// event, but for the leave of a session that isn't live, and may make a record, which the journal is to keep.
+    ///
+    /// Its error is want of memory: then all is as before. A leave takes no memory.
+    pub fn step<C: SigCheck>(
         &mut self,
         alloc: Global,
         worker: u64,
@@ -18,9 +22,8 @@ impl Core {
         command: Command,
         room: &Room,
         check: &C,
-        signer: &G,
     ) -> Result<Step, AllocError>
-        ensures answers { IfOk result (λ step. Answers (IsAnswer C.verdict (G.Makes (G.public_key signer.now)) self.old room.now worker session command) self.old step self.new) }
+        ensures answers { IfOk result (λ step. Gives self.old (answer_to C.verdict self.old room.now worker session command) step self.new) }
         ensures unchanged { OnErr result (self.new ≡ self.old) }
         ensures leaves { OnErr result (is_leave command ≡ false) }
     {
