@@ -20,7 +20,7 @@ use Rattle.sia_host.specs.declared.session.Session.{Session}
 use Rattle.sia_host.specs.declared.step.Room.{Room}
 use Rattle.sia_host.specs.declared.step.Step.{Step}
 use Rattle.sia_host.specs.Sessions.{begins, challenge_at, holder_among, live_sessions, with_number}
-use Rattle.sia_host.specs.State.{Kept, State, after_record, contract_among, one_more}
+use Rattle.sia_host.specs.State.{Kept, HostState, with_record, contract_among, counted_more}
 
 -- a host: its settings, whose height isn't looked at, its margin and its seed; what it knows by its records; and the events of
 -- this run
@@ -28,7 +28,7 @@ pub record Host : Type 0 where
   pub settings : Settings
   pub margin : ℕ
   pub seed : List ℕ
-  pub state : State
+  pub state : HostState
   pub events : List Event
 
 -- its settings, with the height of its chain
@@ -92,7 +92,7 @@ contract_now h id = or_code NO_CONTRACT (contract_among id h.state.contracts)
 -- its answers
 
 -- what a command comes to; an event is noted of each but of the leave of a session that isn't live
-pub record Answered : Type 0 where
+pub record Reaction : Type 0 where
   pub reply : Reply
   pub event : Option Event
   pub made : Option HostRecord
@@ -100,7 +100,7 @@ pub record Answered : Type 0 where
 -- how many records there are with this one
 abbrev pub count_with : ℕ → Option HostRecord → ℕ
 count_with count None = count
-count_with count (Some made) = one_more count
+count_with count (Some made) = counted_more count
 
 -- the event of a call
 abbrev pub event_of : Host → Call → Option (List ℕ) → Outcome → Option HostRecord → Event
@@ -114,36 +114,36 @@ event_of h call contract fine made = record {
 }
 
 -- a call that is answered: the contract that its event names, its outcome, the reply, and its record
-abbrev pub answered : Host → Call → Option (List ℕ) → Outcome → Reply → Option HostRecord → Answered
+abbrev pub answered : Host → Call → Option (List ℕ) → Outcome → Reply → Option HostRecord → Reaction
 answered h call contract fine said made = record { reply = said; event = Some (event_of h call contract fine made); made = made }
 
 -- a call that is refused
-abbrev pub refused : Host → Call → Option (List ℕ) → ℕ → Answered
+abbrev pub refused : Host → Call → Option (List ℕ) → ℕ → Reaction
 refused h call contract code = answered h call contract (outcome.Code code) (reply.Error code) None
 
 -- the payload of a record
-abbrev pub payload_of : HostRecord → List ℕ
-payload_of made = host_record.spelled made
+abbrev pub record_payload : HostRecord → List ℕ
+record_payload made = host_record.spelled made
 
 -- how long a journal grows by a record: by a gate, the length of its payload, and the payload
 abbrev pub framed_length : HostRecord → ℕ
-framed_length made = length (payload_of made) + 9
+framed_length made = length (record_payload made) + 9
 
 -- a record passes what the journal has left
 abbrev pub lacks_room : Room → HostRecord → Bool
 lacks_room room made = nat_lt room.bytes (framed_length made)
 
 -- what the host knows with a record, if one is made
-abbrev pub state_with : List ℕ → State → Option HostRecord → State
+abbrev pub state_with : List ℕ → HostState → Option HostRecord → HostState
 state_with host_key state None = state
-state_with host_key state (Some made) = after_record host_key state made
+state_with host_key state (Some made) = with_record host_key state made
 
 -- the host after a call that is answered so
-abbrev pub after_answer : Host → Answered → Host
+abbrev pub after_answer : Host → Reaction → Host
 after_answer h a = record h { state = state_with h.settings.host_key h.state a.made; events = h.events ++ option_to_list a.event }
 
 -- a step is so answered: the reply, the payload that the journal is to keep, and the host after it
-pub record Gives (h : Host) (a : Answered) (step : Step) (after : Host) : Type 0 where
+pub record IsReaction (h : Host) (a : Reaction) (step : Step) (after : Host) : Type 0 where
   pub reply : step.reply ≡ a.reply
-  pub payload : step.payload ≡ option_map payload_of a.made
+  pub payload : step.payload ≡ option_map record_payload a.made
   pub host : after ≡ after_answer h a

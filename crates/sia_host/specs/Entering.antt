@@ -7,23 +7,23 @@ use Rattle.sia_host.specs.declared.event.Kind.TheVariants as kind
 use Rattle.sia_host.specs.declared.event.Outcome.TheVariants as outcome
 use Rattle.sia_host.specs.declared.reply.Reply.TheVariants as reply
 use Rattle.sia_host.specs.declared.session.Session.{Session}
-use Rattle.sia_host.specs.Answered.{Answered, Host, answered, next_challenge, next_session, session_now, settings_now}
+use Rattle.sia_host.specs.Answered.{Reaction, Host, answered, next_challenge, next_session, session_now, settings_now}
 
 -- a session begins, with a number and a challenge of its own
-abbrev pub enter_answered : Host → ℕ → Answered
-enter_answered h worker =
+abbrev pub enter_reaction : Host → ℕ → Reaction
+enter_reaction h worker =
     answered h (record { worker = worker; session = next_session h; kind = kind.Enter }) None outcome.Fine (reply.Entered (next_session h) (next_challenge h)) None
 
 -- the leave of a session that is live, or of one that isn't, which leaves no event
-abbrev pub leave_given : Host → Call → Option Session → Answered
+abbrev pub leave_given : Host → Call → Option Session → Reaction
 leave_given h call None = record { reply = reply.Error WRONG_STATE; event = None; made = None }
 leave_given h call (Some session) = answered h call session.held outcome.Fine reply.Applied None
 
 -- a session ends, and what it held is free
-abbrev pub leave_answered : Host → ℕ → ℕ → Answered
-leave_answered h worker session = leave_given h (record { worker = worker; session = session; kind = kind.Leave }) (session_now h session)
+abbrev pub leave_reaction : Host → ℕ → ℕ → Reaction
+leave_reaction h worker session = leave_given h (record { worker = worker; session = session; kind = kind.Leave }) (session_now h session)
 
 -- the settings are told to anybody
-abbrev pub settings_answered : Host → ℕ → ℕ → Answered
-settings_answered h worker session =
+abbrev pub settings_reaction : Host → ℕ → ℕ → Reaction
+settings_reaction h worker session =
     answered h (record { worker = worker; session = session; kind = kind.Settings }) None outcome.Fine (reply.Said (answer.Settings (settings_now h))) None

@@ -13,7 +13,7 @@ use Rattle.sia_host.specs.declared.event.Kind.TheVariants as kind
 use Rattle.sia_host.specs.declared.event.Outcome.TheVariants as outcome
 use Rattle.sia_host.specs.declared.reply.Reply.TheVariants as reply
 use Rattle.sia_host.specs.declared.step.Room.{Room}
-use Rattle.sia_host.specs.Answered.{Answered, Host, answered, lacks_room, refused}
+use Rattle.sia_host.specs.Answered.{Reaction, Host, answered, lacks_room, refused}
 
 -- the number of the rule that a block breaks, as its name begins; want of memory has none
 abbrev pub rule_number : BlockFault → ℕ
@@ -48,24 +48,24 @@ abbrev pub no_session : ℕ
 no_session = 0
 
 -- a command that makes a record is answered so, where the journal may be full for it
-abbrev pub recorded_unless : Host → Bool → Call → HostRecord → Answered
+abbrev pub recorded_unless : Host → Bool → Call → HostRecord → Reaction
 recorded_unless h full call made = if full then refused h call None STORE_FULL else answered h call None outcome.Fine reply.Applied (Some made)
 
 -- what follows from the rule that a block breaks, or from none
-abbrev pub apply_given : Host → Bool → Call → Block → Option BlockFault → Answered
+abbrev pub apply_given : Host → Bool → Call → Block → Option BlockFault → Reaction
 apply_given h full call block (Some fault) = answered h call None (outcome.Block (rule_number fault)) (reply.Refused fault) None
 apply_given h full call block None = recorded_unless h full call (records.Block block)
 
 -- a block is put behind the last one; first it is judged, and then room is sought
-abbrev pub apply_answered : (List ℕ → List ℕ → List ℕ → Bool) → Host → Room → ℕ → Block → Answered
-apply_answered accepts h room worker block =
+abbrev pub apply_reaction : (List ℕ → List ℕ → List ℕ → Bool) → Host → Room → ℕ → Block → Reaction
+apply_reaction accepts h room worker block =
     apply_given h (lacks_room room (records.Block block)) (record { worker = worker; session = no_session; kind = kind.Apply }) block (refusal accepts h.state.chain block)
 
 -- what follows from how many blocks there are
-abbrev pub revert_given : Host → Room → Call → ℕ → Answered
+abbrev pub revert_given : Host → Room → Call → ℕ → Reaction
 revert_given h room call zero = answered h call None outcome.NoBlock reply.NoBlock None
 revert_given h room call (suc below) = recorded_unless h (lacks_room room records.Revert) call records.Revert
 
 -- the last block is dropped
-abbrev pub revert_answered : Host → Room → ℕ → Answered
-revert_answered h room worker = revert_given h room (record { worker = worker; session = no_session; kind = kind.Revert }) (height h.state.chain)
+abbrev pub revert_reaction : Host → Room → ℕ → Reaction
+revert_reaction h room worker = revert_given h room (record { worker = worker; session = no_session; kind = kind.Revert }) (height h.state.chain)

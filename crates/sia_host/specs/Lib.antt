@@ -10,3 +10,10 @@ pub mod Feeding
 pub mod Signing
 pub mod Forming
 pub mod Answers
+pub mod Paying
+pub mod Writing
+pub mod Fetching
+pub mod Reading
+pub mod Renewing
+pub mod Jobs
+pub mod Replaying

@@ -15,7 +15,7 @@ use Rattle.sia_host.specs.declared.event.Outcome.TheVariants as outcome
 use Rattle.sia_host.specs.declared.reply.Reply.TheVariants as reply
 use Rattle.sia_host.specs.declared.session.Session.{Session}
 use Rattle.sia_host.specs.State.{Kept}
-use Rattle.sia_host.specs.Answered.{Answered, Host, answered, contract_now, held_now, holder_now, idle_now, next_challenge, refused}
+use Rattle.sia_host.specs.Answered.{Reaction, Host, answered, contract_now, held_now, holder_now, idle_now, next_challenge, refused}
 
 -- what a request for a lock signs: the challenge and the contract's identifier
 unfoldable pub lock_hash : List ℕ → List ℕ → List ℕ
@@ -43,21 +43,21 @@ abbrev pub lock_missed : Host → ℕ → LockAnswer
 lock_missed h holder = record { acquired = false; holder = holder; challenge = next_challenge h; newest = None; signatures = [] }
 
 -- what follows from the judgement, and from who holds the contract
-abbrev pub lock_given : Host → Call → List ℕ → Result Kept ℕ → Option ℕ → Answered
+abbrev pub lock_given : Host → Call → List ℕ → Result Kept ℕ → Option ℕ → Reaction
 lock_given h call id (Err code) holder = refused h call (Some id) code
 lock_given h call id (Ok contract) (Some holder) = answered h call (Some id) (outcome.Held holder) (reply.Said (answer.Lock (lock_missed h holder))) None
 lock_given h call id (Ok contract) None = answered h call (Some id) outcome.Fine (reply.Said (answer.Lock (lock_acquired h contract))) None
 
 -- a request for a lock; its event names the contract, whatever the answer
-abbrev pub lock_answered : (List ℕ → List ℕ → List ℕ → Bool) → Host → ℕ → ℕ → LockRequest → Answered
-lock_answered accepts h worker session request =
+abbrev pub lock_reaction : (List ℕ → List ℕ → List ℕ → Bool) → Host → ℕ → ℕ → LockRequest → Reaction
+lock_reaction accepts h worker session request =
     lock_given h (record { worker = worker; session = session; kind = kind.Lock }) request.contract (lock_judged accepts h session request) (holder_now h request.contract)
 
 -- a lock is given back, if the session holds a contract
-abbrev pub unlock_given : Host → Call → Option (List ℕ) → Answered
+abbrev pub unlock_given : Host → Call → Option (List ℕ) → Reaction
 unlock_given h call None = refused h call None WRONG_STATE
 unlock_given h call (Some held) = answered h call (Some held) outcome.Fine (reply.Said answer.Unlock) None
 
 -- a request to give the lock back
-abbrev pub unlock_answered : Host → ℕ → ℕ → Answered
-unlock_answered h worker session = unlock_given h (record { worker = worker; session = session; kind = kind.Unlock }) (held_now h session)
+abbrev pub unlock_reaction : Host → ℕ → ℕ → Reaction
+unlock_reaction h worker session = unlock_given h (record { worker = worker; session = session; kind = kind.Unlock }) (held_now h session)

@@ -34,13 +34,13 @@ abbrev pub begun_session : ℕ → List ℕ → Session
 begun_session number challenge = record { number = number; challenge = challenge; held = None }
 
 -- a session after an effect that it goes on with, which comes with a challenge and names a contract
-abbrev pub changed_by : Effect → List ℕ → Option (List ℕ) → Session → Session
-changed_by effect.Begins challenge contract session = session
-changed_by effect.Acquires challenge contract session = record session { challenge = challenge; held = contract }
-changed_by effect.AsksAnew challenge contract session = record session { challenge = challenge }
-changed_by effect.Frees challenge contract session = record session { held = None }
-changed_by effect.Ends challenge contract session = session
-changed_by effect.Stays challenge contract session = session
+abbrev pub session_changed : Effect → List ℕ → Option (List ℕ) → Session → Session
+session_changed effect.Begins challenge contract session = session
+session_changed effect.Acquires challenge contract session = record session { challenge = challenge; held = contract }
+session_changed effect.AsksAnew challenge contract session = record session { challenge = challenge }
+session_changed effect.Frees challenge contract session = record session { held = None }
+session_changed effect.Ends challenge contract session = session
+session_changed effect.Stays challenge contract session = session
 
 -- the sessions, where those with a number are changed
 abbrev pub on_session : ℕ → (Session → Session) → List Session → List Session
@@ -53,9 +53,9 @@ without_session number sessions = filter (λ (s : Session). not (s.number == num
 -- the live sessions after an effect on one: it is put behind the others, taken away, or changed
 abbrev pub sessions_by : Effect → ℕ → List ℕ → Option (List ℕ) → List Session → List Session
 sessions_by effect.Begins number challenge contract sessions = sessions ++ begun_session number challenge ∷ []
-sessions_by effect.Acquires number challenge contract sessions = on_session number (changed_by effect.Acquires challenge contract) sessions
-sessions_by effect.AsksAnew number challenge contract sessions = on_session number (changed_by effect.AsksAnew challenge contract) sessions
-sessions_by effect.Frees number challenge contract sessions = on_session number (changed_by effect.Frees challenge contract) sessions
+sessions_by effect.Acquires number challenge contract sessions = on_session number (session_changed effect.Acquires challenge contract) sessions
+sessions_by effect.AsksAnew number challenge contract sessions = on_session number (session_changed effect.AsksAnew challenge contract) sessions
+sessions_by effect.Frees number challenge contract sessions = on_session number (session_changed effect.Frees challenge contract) sessions
 sessions_by effect.Ends number challenge contract sessions = without_session number sessions
 sessions_by effect.Stays number challenge contract sessions = sessions
 
@@ -82,13 +82,13 @@ is_held contract None = false
 is_held contract (Some held) = bytes_eq held contract
 
 -- the number of a session
-abbrev pub number_of : Session → ℕ
-number_of session = session.number
+abbrev pub session_number : Session → ℕ
+session_number session = session.number
 
 -- The one of these sessions that holds a contract. Of the live sessions it is the holder: the one whose lock on the contract was
 -- acquired, and that has neither unlocked nor left since.
 abbrev pub holder_among : List ℕ → List Session → Option ℕ
-holder_among contract sessions = option_map number_of (find (λ (s : Session). is_held contract s.held) sessions)
+holder_among contract sessions = option_map session_number (find (λ (s : Session). is_held contract s.held) sessions)
 
 -- whether an effect begins a session
 abbrev pub is_beginning : Effect → Bool

@@ -7,12 +7,12 @@ use Rattle.sia_types.specs.declared.transaction.Transaction.{Transaction}
 use Rattle.sia_sign.specs.SignedText.{signed_hash}
 
 -- the whole transaction is covered
-abbrev pub whole : Covered
-whole = record { whole = true; coin_inputs = []; coin_outputs = []; contracts = []; revisions = []; proofs = []; fund_inputs = []; fund_outputs = []; fees = []; notes = []; signatures = [] }
+abbrev pub all_covered : Covered
+all_covered = record { whole = true; coin_inputs = []; coin_outputs = []; contracts = []; revisions = []; proofs = []; fund_inputs = []; fund_outputs = []; fees = []; notes = []; signatures = [] }
 
 -- a signature of a whole transaction, by the key at an index of the conditions of what it unlocks
 abbrev pub whole_signature : List ℕ → ℕ → List ℕ → Signature
-whole_signature parent index bytes = record { parent = parent; key_index = index; timelock = 0; covered = whole; signature = bytes }
+whole_signature parent index bytes = record { parent = parent; key_index = index; timelock = 0; covered = all_covered; signature = bytes }
 
 -- the hash that such a signature signs, whatever its bytes
 abbrev pub whole_hash : Transaction → List ℕ → ℕ → List ℕ

@@ -27,13 +27,13 @@ pub record Kept : Type 0 where
   pub sectors : List Stored
 
 -- what a host knows, and of how many records
-pub record State : Type 0 where
+pub record HostState : Type 0 where
   pub chain : Chain
   pub contracts : List Kept
   pub count : ℕ
 
 -- before the first record
-abbrev pub first_state : Params → State
+abbrev pub first_state : Params → HostState
 first_state params = record { chain = begun params; contracts = []; count = 0 }
 
 -- the contract with this identifier
@@ -84,8 +84,8 @@ formed_by host_key renter_key tx sectors (terms ∷ others) = new_contract host_
 -- a contract that is revised
 
 -- a contract with a new newest revision
-abbrev pub revised : Revision → List ℕ → List ℕ → List Change → Kept → Kept
-revised revision renter host changes c = record c { newest = revision; signatures = renter ∷ host ∷ []; sectors = stored_after c.sectors changes }
+abbrev pub revised_contract : Revision → List ℕ → List ℕ → List Change → Kept → Kept
+revised_contract revision renter host changes c = record c { newest = revision; signatures = renter ∷ host ∷ []; sectors = stored_after c.sectors changes }
 
 -- a contract that is renewed
 
@@ -124,26 +124,26 @@ chain_after chain other = chain
 -- the contracts after a record, under the host's key
 abbrev pub contracts_after : List ℕ → List Kept → HostRecord → List Kept
 contracts_after host_key contracts (records.Formed renter_key tx) = contracts ++ formed_by host_key renter_key tx [] tx.contracts
-contracts_after host_key contracts (records.Revised revision renter host changes) = changed_at revision.parent (revised revision renter host changes) contracts
+contracts_after host_key contracts (records.Revised revision renter host changes) = changed_at revision.parent (revised_contract revision renter host changes) contracts
 contracts_after host_key contracts (records.Renewed tx) = after_renewal host_key tx contracts tx.revisions
 contracts_after host_key contracts other = contracts
 
 -- one more, as far as a number of 64 bits goes
-abbrev pub one_more : ℕ → ℕ
-one_more count = min (count + 1) (2 ^ 64 - 1)
+abbrev pub counted_more : ℕ → ℕ
+counted_more count = min (count + 1) (2 ^ 64 - 1)
 
 -- what a host knows after a record more
-unfoldable pub after_record : List ℕ → State → HostRecord → State
-after_record host_key state made = record {
+unfoldable pub with_record : List ℕ → HostState → HostRecord → HostState
+with_record host_key state made = record {
   chain = chain_after state.chain made;
   contracts = contracts_after host_key state.contracts made;
-  count = one_more state.count;
+  count = counted_more state.count;
 }
 
 -- what a host knows by its records
-unfoldable pub state_of : List ℕ → Params → List HostRecord → State
-state_of host_key params records = fold (after_record host_key) (first_state params) records
+unfoldable pub host_state : List ℕ → Params → List HostRecord → HostState
+host_state host_key params records = fold (with_record host_key) (first_state params) records
 
 -- the slots that have sectors
-abbrev pub live_slots : State → List ℕ
+abbrev pub live_slots : HostState → List ℕ
 live_slots state = flat_map (λ (c : Kept). map (λ (s : Stored). s.slot) c.sectors) state.contracts

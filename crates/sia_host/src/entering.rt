@@ -1,7 +1,7 @@
 //! Sessions that begin and end, and the settings.
 ghost use Rattle.std.specs.Prelude.{◌≡◌, ◌≢◌, Err, IfOk, OnErr};
-ghost use Rattle.sia_host.specs.Answered.{Gives};
-ghost use Rattle.sia_host.specs.Entering.{enter_answered, leave_answered, settings_answered};
+ghost use Rattle.sia_host.specs.Answered.{IsReaction};
+ghost use Rattle.sia_host.specs.Entering.{enter_reaction, leave_reaction, settings_reaction};
 
 use crate::call::Call;
 use crate::codes::WRONG_STATE;
@@ -15,7 +15,7 @@ use std::alloc::AllocError;
 impl Core {
     /// A session begins.
     pub(crate) fn enter(&mut self, worker: u64) -> Result<Step, AllocError>
-        ensures gives { IfOk result (λ step. Gives self.old (enter_answered self.old worker) step self.new) }
+        ensures gives { IfOk result (λ step. IsReaction self.old (enter_reaction self.old worker) step self.new) }
         ensures kept { OnErr result (self.new ≡ self.old) }
     {
         let Some(session) = self.log.entered().checked_add(1) else {
@@ -37,7 +37,7 @@ impl Core {
 
     /// A session ends. It takes no memory.
     pub(crate) fn leave(&mut self, worker: u64, session: u64) -> Step
-        ensures { Gives self.old (leave_answered self.old worker session) result self.new }
+        ensures { IsReaction self.old (leave_reaction self.old worker session) result self.new }
     {
         let Some(live) = self.log.session(session) else {
             return Step {
@@ -61,7 +61,7 @@ impl Core {
 
     /// The settings are told.
     pub(crate) fn tell_settings(&mut self, worker: u64, session: u64) -> Result<Step, AllocError>
-        ensures gives { IfOk result (λ step. Gives self.old (settings_answered self.old worker session) step self.new) }
+        ensures gives { IfOk result (λ step. IsReaction self.old (settings_reaction self.old worker session) step self.new) }
         ensures kept { OnErr result (self.new ≡ self.old) }
     {
         let settings = self.settings_now();

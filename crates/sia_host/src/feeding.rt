@@ -8,8 +8,8 @@ ghost use Rattle.sia_types.specs.declared.block.Block.{Block as Mined};
 ghost use Rattle.sia_rules.specs.Answers.{block_told};
 ghost use Rattle.sia_host.specs.declared.event.Outcome.TheVariants as outcome;
 ghost use Rattle.sia_host.specs.declared.reply.Reply.TheVariants as reply;
-ghost use Rattle.sia_host.specs.Answered.{Gives, answered, payload_of};
-ghost use Rattle.sia_host.specs.Feeding.{apply_answered, apply_given, no_session, revert_answered, rule_number as rule_number_so};
+ghost use Rattle.sia_host.specs.Answered.{IsReaction, answered, record_payload};
+ghost use Rattle.sia_host.specs.Feeding.{apply_reaction, apply_given, no_session, revert_reaction, rule_number as rule_number_so};
 
 use crate::call::Call;
 use crate::codes::STORE_FULL;
@@ -29,7 +29,7 @@ use std::sync::ledger::{Blank, Ledger as StepBook};
 
 /// Frames the payload of a record. The error is want of memory.
 pub(crate) fn frame(alloc: Global, made: &HostRecord) -> Result<RecordBuf, AllocError>
-    ensures { IfOk result (λ framed. framed ≡ payload_of made.now) }
+    ensures { IfOk result (λ framed. framed ≡ record_payload made.now) }
 {
     let mut payload = Blob::new(alloc);
     made.encode(&mut payload)?;
@@ -53,7 +53,7 @@ impl Core {
         block: Block,
         check: &C,
     ) -> Result<Step, AllocError>
-        ensures gives { IfOk result (λ step. Gives self.old (apply_answered C.verdict self.old room.now worker block) step self.new) }
+        ensures gives { IfOk result (λ step. IsReaction self.old (apply_reaction C.verdict self.old room.now worker block) step self.new) }
         ensures kept { OnErr result (self.new ≡ self.old) }
     {
         let made = HostRecord::Block(block);
@@ -71,7 +71,7 @@ impl Core {
         check: &C,
     ) -> Result<Step, AllocError>
         requires { made.now ≡ records.Block block.now }
-        ensures gives { IfOk result (λ step. Gives self.old (apply_answered C.verdict self.old room.now worker block.now) step self.new) }
+        ensures gives { IfOk result (λ step. IsReaction self.old (apply_reaction C.verdict self.old room.now worker block.now) step self.new) }
         ensures kept { OnErr result (self.new ≡ self.old) }
     {
         let call = feed_call(worker, Kind::Apply);
@@ -90,7 +90,7 @@ impl Core {
         block: &Block,
         check: &C,
     ) -> Result<Step, AllocError>
-        ensures gives { IfOk result (λ step. Gives self.old (apply_given self.old true call block.now (refusal C.verdict self.old.state.chain block.now)) step self.new) }
+        ensures gives { IfOk result (λ step. IsReaction self.old (apply_given self.old true call block.now (refusal C.verdict self.old.state.chain block.now)) step self.new) }
         ensures kept { OnErr result (self.new ≡ self.old) }
     {
         match judge_block(alloc, &self.ledger, block, check)? {
@@ -100,7 +100,7 @@ impl Core {
     }
 
     // The answer to a block for which the journal has room.
-    #[tactic(auto, unfolding(crate::specs::State::after_record))]
+    #[tactic(auto, unfolding(crate::specs::State::with_record))]
     fn apply_fit<C: SigCheck>(
         &mut self,
         alloc: Global,
@@ -109,8 +109,8 @@ impl Core {
         framed: RecordBuf,
         check: &C,
     ) -> Result<Step, AllocError>
-        requires { framed ≡ payload_of (records.Block block.now) }
-        ensures gives { IfOk result (λ step. Gives self.old (apply_given self.old false call block.now (refusal C.verdict self.old.state.chain block.now)) step self.new) }
+        requires { framed ≡ record_payload (records.Block block.now) }
+        ensures gives { IfOk result (λ step. IsReaction self.old (apply_given self.old false call block.now (refusal C.verdict self.old.state.chain block.now)) step self.new) }
         ensures kept { OnErr result (self.new ≡ self.old) }
     {
         self.log.reserve()?;
@@ -130,7 +130,7 @@ impl Core {
 
     // A block is refused, by the rule that it breaks.
     fn refuse_block(&mut self, call: Call, fault: BlockFault) -> Result<Step, AllocError>
-        ensures gives { IfOk result (λ step. Gives self.old (answered self.old call None (outcome.Block (rule_number_so fault)) (reply.Refused fault) None) step self.new) }
+        ensures gives { IfOk result (λ step. IsReaction self.old (answered self.old call None (outcome.Block (rule_number_so fault)) (reply.Refused fault) None) step self.new) }
         ensures kept { OnErr result (self.new ≡ self.old) }
     {
         let number = rule_number(&fault);
@@ -138,14 +138,14 @@ impl Core {
     }
 
     /// The last block is dropped.
-    #[tactic(auto, unfolding(crate::specs::State::after_record))]
+    #[tactic(auto, unfolding(crate::specs::State::with_record))]
     pub(crate) fn revert(
         &mut self,
         alloc: Global,
         room: &Room,
         worker: u64,
     ) -> Result<Step, AllocError>
-        ensures gives { IfOk result (λ step. Gives self.old (revert_answered self.old room.now worker) step self.new) }
+        ensures gives { IfOk result (λ step. IsReaction self.old (revert_reaction self.old room.now worker) step self.new) }
         ensures kept { OnErr result (self.new ≡ self.old) }
     {
         let call = feed_call(worker, Kind::Revert);

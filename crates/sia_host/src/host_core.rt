@@ -7,7 +7,7 @@ ghost use Rattle.sia_ledger.specs.Holdings.{sums_of, tip as tip_so};
 ghost use Rattle.sia_host.specs.declared.event.Outcome.TheVariants as outcome;
 ghost use Rattle.sia_host.specs.declared.reply.Reply.TheVariants as reply;
 ghost use Rattle.sia_host.specs.State.{Kept, first_state};
-ghost use Rattle.sia_host.specs.Answered.{Gives, Host, answered, contract_now, event_of, held_now, idle_now, refused, settings_now};
+ghost use Rattle.sia_host.specs.Answered.{IsReaction, Host, answered, contract_now, event_of, held_now, idle_now, refused, settings_now};
 ghost use Rattle.sia_host.specs.Beginning.{core_told};
 ghost use Rattle.sia_host.specs.Refusals.{code_told};
 
@@ -149,7 +149,7 @@ impl Core {
         outcome: Outcome,
         reply: Reply,
     ) -> Result<Step, AllocError>
-        ensures gives { IfOk result (λ step. Gives self.old (answered self.old call contract outcome reply None) step self.new) }
+        ensures gives { IfOk result (λ step. IsReaction self.old (answered self.old call contract outcome reply None) step self.new) }
         ensures kept { OnErr result (self.new ≡ self.old) }
     {
         self.log.reserve()?;
@@ -168,7 +168,7 @@ impl Core {
         contract: Option<Hash>,
         code: u64,
     ) -> Result<Step, AllocError>
-        ensures gives { IfOk result (λ step. Gives self.old (refused self.old call contract code) step self.new) }
+        ensures gives { IfOk result (λ step. IsReaction self.old (refused self.old call contract code) step self.new) }
         ensures kept { OnErr result (self.new ≡ self.old) }
     {
         self.answer(call, contract, Outcome::Code(code), Reply::Error { code })

@@ -3,7 +3,8 @@
 //! A host holds contracts with renters, and a session that has a contract's lock may work with it (RHP2; siad's modules/host and
 //! modules/negotiate.go). A command is answered by one reply, one event and at most one record of the journal; what the host knows
 //! is the fold of its records. Events, records, codes and the challenge are this project's own. So far sessions, locks and the
-//! blocks of the chain have calls; contracts are formed by no command yet.
+//! blocks of the chain have calls; contracts are formed by no command yet. What is said of other commands in specs/, to form, to write,
+//! to read, to renew and to prove, is cited by no clause yet.
 //!
 //! ```
 //! let mut core = Core::new(alloc, config, seed)?;
@@ -23,7 +24,8 @@
 //!
 //! sia_ledger for the chain, sia_records and sia_journal for records and their frames, sia_rhp for requests and answers, sia_forms for
 //! the parties' conditions, sia_ids, sia_blake and sia_edge for identifiers, challenges and signatures, sia_types, sia_rules and
-//! sia_encoding for what all of these say.
+//! sia_encoding for what all of these say. Definitions of the commands to come cite sia_price, sia_sign, sia_prover, sia_diff,
+//! sia_range and sia_merkle besides.
 #![tactic(auto)]
 
 mod call;

@@ -2,9 +2,9 @@
 ghost use Rattle.std.specs.Prelude.{◌≡◌, ◌++◌, codes, None, Some, Ok, IfOk, OnErr};
 ghost use Rattle.sia_blake.specs.Blake2b.{blake2b_256};
 ghost use Rattle.sia_encoding.specs.Answer.{Answers as Tells};
-ghost use Rattle.sia_host.specs.Answered.{Gives, holder_now};
+ghost use Rattle.sia_host.specs.Answered.{IsReaction, holder_now};
 ghost use Rattle.sia_host.specs.State.{Kept};
-ghost use Rattle.sia_host.specs.Locking.{lock_acquired, lock_answered, lock_given, lock_hash as lock_hash_so, lock_judged as lock_judged_so, lock_missed, unlock_answered};
+ghost use Rattle.sia_host.specs.Locking.{lock_acquired, lock_reaction, lock_given, lock_hash as lock_hash_so, lock_judged as lock_judged_so, lock_missed, unlock_reaction};
 ghost use Rattle.sia_host.specs.Refusals.{code_told};
 
 use crate::call::Call;
@@ -34,7 +34,7 @@ impl Core {
         request: &LockRequest,
         check: &C,
     ) -> Result<Step, AllocError>
-        ensures gives { IfOk result (λ step. Gives self.old (lock_answered C.verdict self.old worker session request.now) step self.new) }
+        ensures gives { IfOk result (λ step. IsReaction self.old (lock_reaction C.verdict self.old worker session request.now) step self.new) }
         ensures kept { OnErr result (self.new ≡ self.old) }
     {
         let call = Call {
@@ -61,7 +61,7 @@ impl Core {
         id: &Hash,
         acquired: LockAnswer,
     ) -> Result<Step, AllocError>
-        ensures gives { (contract : Kept) → acquired ≡ lock_acquired self.old contract → IfOk result (λ step. Gives self.old (lock_given self.old call id.now (Ok contract) (holder_now self.old id.now)) step self.new) }
+        ensures gives { (contract : Kept) → acquired ≡ lock_acquired self.old contract → IfOk result (λ step. IsReaction self.old (lock_given self.old call id.now (Ok contract) (holder_now self.old id.now)) step self.new) }
         ensures kept { OnErr result (self.new ≡ self.old) }
     {
         let named = *id;
@@ -86,7 +86,7 @@ impl Core {
 
     /// A session gives its lock back.
     pub(crate) fn unlock(&mut self, worker: u64, session: u64) -> Result<Step, AllocError>
-        ensures gives { IfOk result (λ step. Gives self.old (unlock_answered self.old worker session) step self.new) }
+        ensures gives { IfOk result (λ step. IsReaction self.old (unlock_reaction self.old worker session) step self.new) }
         ensures kept { OnErr result (self.new ≡ self.old) }
     {
         let call = Call {

@@ -2,7 +2,7 @@
 ghost use Rattle.std.specs.Prelude.{◌≡◌, ◌≢◌, ℕ, ◌+◌, ◌*◌, ◌<◌, ◌≤◌, ◌==◌, [], ◌∷◌, ◌++◌, map, length, if◌then◌else◌, vec_len, vec_capacity, IsSome, OnOk, OnErr, option_copied};
 ghost use Rattle.std.specs.List.{count_by};
 ghost use Rattle.sia_host.specs.Logs.{LogView};
-ghost use Rattle.sia_host.specs.Sessions.{begins, challenge_at as challenge_so, changed_by, effect_of as effect_so, holder_among, is_held as is_held_so, live_sessions, sessions_after, sessions_by, with_number, without_session};
+ghost use Rattle.sia_host.specs.Sessions.{begins, challenge_at as challenge_so, session_changed, effect_of as effect_so, holder_among, is_held as is_held_so, live_sessions, sessions_after, sessions_by, with_number, without_session};
 
 use crate::event::{Event, Kind, Outcome};
 use crate::session::{Effect, Session, effect_of};
@@ -229,7 +229,7 @@ fn change(
     challenge: [u8; 16],
     contract: Option<Hash>,
 )
-    ensures items { sessions.new.items ≡ map (λ s. if s.number == number then changed_by effect challenge contract s else s) sessions.old.items }
+    ensures items { sessions.new.items ≡ map (λ s. if s.number == number then session_changed effect challenge contract s else s) sessions.old.items }
     ensures capacity { vec_capacity sessions.new ≡ vec_capacity sessions.old }
     ensures more { vec_len sessions.new ≡ vec_len sessions.old }
 {
@@ -247,7 +247,7 @@ fn changed(
     contract: Option<Hash>,
     session: Session,
 ) -> Session
-    ensures { result ≡ (if session.number == number then changed_by effect challenge contract session else session) }
+    ensures { result ≡ (if session.number == number then session_changed effect challenge contract session else session) }
 {
     if session.number != number {
         return session;
@@ -262,7 +262,7 @@ fn after_effect(
     contract: Option<Hash>,
     session: Session,
 ) -> Session
-    ensures { result ≡ changed_by effect challenge contract session }
+    ensures { result ≡ session_changed effect challenge contract session }
 {
     match effect {
         Effect::Begins => session,

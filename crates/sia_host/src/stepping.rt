@@ -1,7 +1,7 @@
 //! The answer to each command.
 ghost use Rattle.std.specs.Prelude.{◌≡◌, false, IfOk, OnErr};
-ghost use Rattle.sia_host.specs.Answered.{Gives};
-ghost use Rattle.sia_host.specs.Answers.{answer_to, is_leave};
+ghost use Rattle.sia_host.specs.Answered.{IsReaction};
+ghost use Rattle.sia_host.specs.Answers.{reaction_to, is_leave};
 
 use crate::command::Command;
 use crate::host_core::Core;
@@ -23,7 +23,7 @@ impl Core {
         room: &Room,
         check: &C,
     ) -> Result<Step, AllocError>
-        ensures answers { IfOk result (λ step. Gives self.old (answer_to C.verdict self.old room.now worker session command) step self.new) }
+        ensures answers { IfOk result (λ step. IsReaction self.old (reaction_to C.verdict self.old room.now worker session command) step self.new) }
         ensures unchanged { OnErr result (self.new ≡ self.old) }
         ensures leaves { OnErr result (is_leave command ≡ false) }
     {
