@@ -41,6 +41,9 @@ impl<T: Item> Item for List<T> {
     }
 }
 
+// The most elements that get room before they are read: a count that tells too many takes little memory.
+const FIRST_ROOM: u64 = 64;
+
 // So many elements, one behind the other.
 fn read_elements<T: Item>(
     alloc: Global,
@@ -49,7 +52,7 @@ fn read_elements<T: Item>(
 ) -> Result<List<T>, DecodeFault>
     ensures { Answers (λ value. (value, cursor.new)) fault_told result (elements_at T.codec.reading count cursor.old) }
 {
-    let mut items = List::new(alloc);
+    let mut items = List::with_room(alloc, count.min(FIRST_ROOM) as usize)?;
     for _ in 0..count {
         items.push(T::read(alloc, cursor)?)?;
     }

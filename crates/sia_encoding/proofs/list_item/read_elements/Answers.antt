@@ -7,7 +7,7 @@ use Rattle.sia_encoding.proofs.list_item.read_elements.Goals as goal
 
 pub returns-in_err-read : goal.returns-in_err-read
 returns-in_err-read g c =
-    let p = err_from_is_err_and c.from_residual.result c.from_residual.ensures.1 in
+    let p = err_from_is_err_and c.from_residual-in_err-read.result c.from_residual-in_err-read.ensures.1 in
     rw (p.1, p.2) (handed_on fault_told c.in_err-read.field-0.0 (g.T.Item.codec.reading c.loop.cursor) _ (λ e is. c.loop.invariant ∙ element_missed g.T.Item.codec.reading c.loop.items c.args.count c.loop.counter c.loop.cursor e c.loop-test.true is) c.in_err-read.ensures)
 
 pub loop-preserved : goal.loop-preserved
