@@ -1,6 +1,6 @@
 -- The laws of codecs that are made of others: where those give back what they spell, so do these. No public
 -- clause speaks of these lemmas; they stand here since the laws of records are made of them.
-use Rattle.std.proofs.Common.{◌≡◌, ℕ, ◌+◌, Bool, true, false, List, ◌++◌, length, Option, Some, None, IfOk, Result, Ok, refl, sym, ap, subst, ◌∙◌, append_assoc, length-append, arith}
+use Rattle.std.proofs.Common.{◌≡◌, ℕ, ◌+◌, Bool, true, false, List, [], ◌∷◌, ◌++◌, find, cond, length, Option, Some, None, IfOk, Result, Ok, refl, sym, ap, subst, ◌∙◌, append_assoc, length-append, arith}
 use Rattle.sia_encoding.specs.declared.fault.DecodeFault.{DecodeFault}
 use Rattle.sia_encoding.specs.Spelling.{spelled_bool}
 use Rattle.sia_encoding.specs.Reading.{Spot, past, bool_at}
@@ -75,6 +75,15 @@ option_law {A} {value} law = codec (option_of value).fits (option_of value).spel
 known_holds : {K : Type 0} (at : ℕ) (to : Spot) (found : Option K) (P : K × Spot → Type 0) → ((k : K) → found ≡ Some k → P (k, to)) → IfOk (known at to found) P
 known_holds at to None P holds = tt
 known_holds at to (Some k) P holds = holds k refl
+
+-- what is found passes
+pub found_passes : {X : Type 0} (p : X → Bool) (xs : List X) (x : X) → find p xs ≡ Some x → p x ≡ true
+found_passes {X} p [] x is = cc
+found_passes {X} p (y ∷ ys) x is = here (p y) refl is (λ later. found_passes p ys x later)
+  where
+    here : (b : Bool) → p y ≡ b → cond b (Some y) (find p ys) ≡ Some x → (find p ys ≡ Some x → p x ≡ true) → p x ≡ true
+    here true passes is others = let same : y ≡ x = cc in rw (← same) passes
+    here false fails is others = others is
 
 -- a kind is lawful by its name, where names and kinds find each other
 pub named_law : {K T : Type 0} {text : Codec T} (name : K → T) (find : T → Option K) → ((k : K) → find (name k) ≡ Some k) → ((t : T) (k : K) → find t ≡ Some k → name k ≡ t) → Lawful text → Lawful (named text name find)

@@ -1,10 +1,10 @@
 -- Kinds and their bytes find each other. No public clause speaks of these lemmas but by the law of kinds; they stand here since
 -- the law of a host's records is made of it.
-use Rattle.std.proofs.Common.{◌≡◌, ℕ, Bool, true, false, List, [], ◌∷◌, find, bytes_eq, cond, Some, refl}
+use Rattle.std.proofs.Common.{◌≡◌, ℕ, List, bytes_eq, Some, refl}
 use Rattle.std.proofs.lemmas.Slice.Eq.{bytes_eq-Decides}
 use Rattle.sia_encoding.specs.Codec.{Lawful}
 use Rattle.sia_encoding.specs.CodecLaws.{fixed_law}
-use Rattle.sia_encoding.specs.RecordLaws.{named_law}
+use Rattle.sia_encoding.specs.RecordLaws.{found_passes, named_law}
 use Rattle.sia_records.specs.declared.kind.RecordKind.{RecordKind}
 use Rattle.sia_records.specs.declared.kind.RecordKind.TheVariants as kind
 use Rattle.sia_records.specs.Kinds.{record_kind_text, record_kind_of, every_record_kind, record_kinds}
@@ -16,15 +16,6 @@ kind_found kind.Revert = refl
 kind_found kind.Formed = refl
 kind_found kind.Revised = refl
 kind_found kind.Renewed = refl
-
--- what is found passes
-found_passes : {X : Type 0} (p : X → Bool) (xs : List X) (x : X) → find p xs ≡ Some x → p x ≡ true
-found_passes {X} p [] x is = cc
-found_passes {X} p (y ∷ ys) x is = here (p y) refl is (λ later. found_passes p ys x later)
-  where
-    here : (b : Bool) → p y ≡ b → cond b (Some y) (find p ys) ≡ Some x → (find p ys ≡ Some x → p x ≡ true) → p x ≡ true
-    here true passes is others = let same : y ≡ x = cc in rw (← same) passes
-    here false fails is others = others is
 
 -- a kind that is found has the byte
 pub kind_named : (text : List ℕ) (k : RecordKind) → record_kind_of text ≡ Some k → record_kind_text k ≡ text

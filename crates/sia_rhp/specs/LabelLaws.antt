@@ -1,10 +1,10 @@
 -- Labels and their texts find each other. No public clause speaks of these lemmas but by the law of labels; they stand here since
 -- the laws of requests are made of them.
-use Rattle.std.proofs.Common.{◌≡◌, ℕ, Bool, true, false, List, [], ◌∷◌, find, bytes_eq, cond, Some, refl}
+use Rattle.std.proofs.Common.{◌≡◌, ℕ, List, bytes_eq, Some, refl}
 use Rattle.std.proofs.lemmas.Slice.Eq.{bytes_eq-Decides}
 use Rattle.sia_encoding.specs.Codec.{Lawful}
 use Rattle.sia_encoding.specs.CodecLaws.{fixed_law}
-use Rattle.sia_encoding.specs.RecordLaws.{named_law}
+use Rattle.sia_encoding.specs.RecordLaws.{found_passes, named_law}
 use Rattle.sia_rhp.specs.declared.label.Label.{Label}
 use Rattle.sia_rhp.specs.declared.label.Label.TheVariants as label
 use Rattle.sia_rhp.specs.Labels.{label_text, label_of, every_label, labels}
@@ -23,15 +23,6 @@ label_found label.Roots = refl
 label_found label.Renew = refl
 label_found label.RenewSign = refl
 label_found label.LoopExit = refl
-
--- what is found passes
-found_passes : {X : Type 0} (p : X → Bool) (xs : List X) (x : X) → find p xs ≡ Some x → p x ≡ true
-found_passes {X} p [] x is = cc
-found_passes {X} p (y ∷ ys) x is = here (p y) refl is (λ later. found_passes p ys x later)
-  where
-    here : (b : Bool) → p y ≡ b → cond b (Some y) (find p ys) ≡ Some x → (find p ys ≡ Some x → p x ≡ true) → p x ≡ true
-    here true passes is others = let same : y ≡ x = cc in rw (← same) passes
-    here false fails is others = others is
 
 -- a label that is found has the text
 pub label_named : (text : List ℕ) (l : Label) → label_of text ≡ Some l → label_text l ≡ text
