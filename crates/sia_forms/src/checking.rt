@@ -140,8 +140,8 @@ fn has_no_other_part(tx: &Transaction) -> bool
         && tx.signatures.is_empty()
 }
 
-// Whether the one revision clears the newest one.
-fn is_cleared(
+/// Whether the one revision clears the newest one. The error is want of memory.
+pub fn is_cleared(
     alloc: Global,
     newest: &Revision,
     revisions: &List<Revision>,
@@ -155,8 +155,8 @@ fn is_cleared(
     is_spelled_as(alloc, &revisions.as_slice()[0], &wanted)
 }
 
-// Whether two revisions are spelled alike.
-fn is_spelled_as(alloc: Global, one: &Revision, other: &Revision) -> Result<bool, AllocError>
+/// Whether two revisions are spelled alike. The error is want of memory.
+pub fn is_spelled_as(alloc: Global, one: &Revision, other: &Revision) -> Result<bool, AllocError>
     ensures { IfOk result (λ same. same ≡ is_spelled_so revision one.now other.now) }
 {
     let mut spelled = Blob::new(alloc);
@@ -166,8 +166,8 @@ fn is_spelled_as(alloc: Global, one: &Revision, other: &Revision) -> Result<bool
     Ok(spelled.as_slice() == wanted.as_slice())
 }
 
-// Whether a contract begins with these bytes, is new, and has this unlock hash.
-fn begins_with(contract: &FileContract, size: u64, root: &Hash, address: &Hash) -> bool
+/// Whether a contract begins with these bytes, is new, and has this unlock hash.
+pub fn begins_with(contract: &FileContract, size: u64, root: &Hash, address: &Hash) -> bool
     ensures { result ≡ begins_so size root.now address.now contract.now }
 {
     contract.size == size
@@ -176,8 +176,8 @@ fn begins_with(contract: &FileContract, size: u64, root: &Hash, address: &Hash) 
         && contract.address == *address
 }
 
-// Whether outputs pay the renter, the host and the void, so much of the host's value being at risk.
-fn pays_parties(
+/// Whether outputs pay the renter, the host and the void, so much of the host's value being at risk.
+pub fn pays_parties(
     settings: &Settings,
     risk: u128,
     valid: &List<CoinOutput>,

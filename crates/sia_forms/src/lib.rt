@@ -19,7 +19,8 @@
 //!   ([`clearing`]). They answer `NoFunds` exactly where the coins don't do, or where an amount passes 2^128 - 1.
 //! - [`check_form`] and [`check_renew`] answer exactly the collateral, or the first of the host's points that fails. What the two
 //!   builders make they accept where the plan keeps the host's limits ([`laws::built_form_is_accepted`],
-//!   [`laws::built_renewal_is_accepted`]).
+//!   [`laws::built_renewal_is_accepted`]). [`begins_with`], [`pays_parties`], [`is_cleared`] and [`is_spelled_as`] are the tests that
+//!   stand in these.
 //! - [`add_host_part`] adds exactly coins that are chosen for the collateral, and the change; [`finish`] puts it and the host's
 //!   signatures behind the renter's.
 //! - [`own_conditions`] and [`own_address`] are those of a party's one key; [`both_conditions`] and [`both_address`] those of the
@@ -43,7 +44,7 @@ mod plan;
 mod renewing;
 
 pub use building::{build_form, build_renew};
-pub use checking::{check_form, check_renew};
+pub use checking::{begins_with, check_form, check_renew, is_cleared, is_spelled_as, pays_parties};
 pub use choosing::choose;
 pub use fault::FormFault;
 pub use funding::{Additions, add_host_part, finish};
