@@ -20,8 +20,8 @@ pub enum PayFault {
     Unbalanced,
 }
 
-/// Whether values of the valid and the missed outputs pay for a call, where the old revision has two valid and three missed
-/// outputs. It takes no memory.
+/// Whether values of the valid and the missed outputs pay for a call. Where an output or a value isn't there, it counts as 0. It takes
+/// no memory.
 ///
 /// # Errors
 /// Exactly the first of these: [`PayFault::Unbalanced`] at another count of values, and at another sum of the valid or the
@@ -35,42 +35,63 @@ pub fn check_payment(
     missed: &[u128],
     cost: &Cost,
 ) -> Result<(), PayFault>
-    requires { HasBothParties old.now }
     ensures { Answers (λ _. tt) itself result (unless (payment_fault old.now valid.now missed.now cost.now)) }
 {
     if valid.len() != old.valid.len() || missed.len() != old.missed.len() {
         return Err(PayFault::Unbalanced);
     }
-    let old_valid = valid_values(old);
-    let old_missed = missed_values(old);
-    if !has_sum_of(valid, &old_valid) || !has_sum_of(missed, &old_missed) {
+    let old_valid = old.valid.as_slice();
+    let old_missed = old.missed.as_slice();
+    if !has_sum_of(valid, old_valid) || !has_sum_of(missed, old_missed) {
         return Err(PayFault::Unbalanced);
     }
     let due = cost.due();
-    let fall = old_valid[0].saturating_sub(valid[0]);
-    if old_valid[0] < valid[0] || fall < due {
+    let had = value_of_output(old_valid, 0);
+    let has = value_at(valid, 0);
+    let fall = had.saturating_sub(has);
+    if had < has || fall < due {
         return Err(PayFault::Low {
             need: due,
             got: fall,
         });
     }
-    if !follows(&old_missed, missed, fall, cost) {
+    if !follows(old_missed, missed, fall, cost) {
         return Err(PayFault::Unbalanced);
     }
     Ok(())
 }
 
 // Whether the missed values follow the renter's fall and the cost.
-fn follows(old: &[u128], missed: &[u128], fall: u128, cost: &Cost) -> bool
-    requires old { length old.now ≡ 3 }
-    requires new { length missed.now ≡ 3 }
-    ensures { result ≡ ((slice_index old.now 0 == slice_index missed.now 0 + fall)
-        && (not (nat_lt (slice_index missed.now 1) (least_kept (slice_index old.now 1) cost.now))
-        && not (nat_lt (slice_index missed.now 2) (slice_index old.now 2)))) }
+fn follows(old: &[CoinOutput], missed: &[u128], fall: u128, cost: &Cost) -> bool
+    ensures { result ≡ ((slice_index (values_of old.now) 0 == slice_index missed.now 0 + fall)
+        && (not (nat_lt (slice_index missed.now 1) (least_kept (slice_index (values_of old.now) 1) cost.now))
+        && not (nat_lt (slice_index missed.now 2) (slice_index (values_of old.now) 2)))) }
 {
-    old[0].checked_sub(missed[0]) == Some(fall)
-        && !is_below_kept(missed[1], old[1], cost)
-        && old[2] <= missed[2]
+    value_of_output(old, 0).checked_sub(value_at(missed, 0)) == Some(fall)
+        && !is_below_kept(value_at(missed, 1), value_of_output(old, 1), cost)
+        && value_of_output(old, 2) <= value_at(missed, 2)
+}
+
+// The value at a place, or 0 where there is none.
+fn value_at(values: &[u128], place: usize) -> u128
+    ensures { result ≡ slice_index values.now place }
+{
+    if place < values.len() {
+        values[place]
+    } else {
+        0
+    }
+}
+
+// The value of the output at a place, or 0 where there is none.
+fn value_of_output(outputs: &[CoinOutput], place: usize) -> u128
+    ensures { result ≡ slice_index (values_of outputs.now) place }
+{
+    if place < outputs.len() {
+        outputs[place].value
+    } else {
+        0
+    }
 }
 
 // Whether a value is below what the host keeps of its missed value.
@@ -86,11 +107,11 @@ fn is_below_kept(value: u128, missed: u128, cost: &Cost) -> bool
     }
 }
 
-// Whether two lists of values have one sum.
-fn has_sum_of(values: &[u128], others: &[u128]) -> bool
-    ensures { result ≡ (sum values.now == sum others.now) }
+// Whether values have the sum of outputs.
+fn has_sum_of(values: &[u128], outputs: &[CoinOutput]) -> bool
+    ensures { result ≡ (sum values.now == sum (values_of outputs.now)) }
 {
-    wide_sum(values) == wide_sum(others)
+    wide_sum(values) == wide_value(outputs)
 }
 
 // A sum that may have more than 128 bits: how often it passed them, and the rest.
@@ -101,6 +122,23 @@ fn wide_sum(values: &[u128]) -> (usize, u128)
     let mut rest: u128 = 0;
     for value in values {
         let (next, over) = rest.overflowing_add(*value);
+        if over {
+            passed += 1;
+        }
+        rest = next;
+    }
+    (passed, rest)
+}
+
+// The same of what outputs are worth.
+fn wide_value(outputs: &[CoinOutput]) -> (usize, u128)
+    ensures { result.0 * 2 ^ 128 + result.1 ≡ sum (values_of outputs.now) }
+{
+    let mut passed = 0;
+    let mut rest: u128 = 0;
+    for i in 0..outputs.len() {
+        let value = value_of_output(outputs, i);
+        let (next, over) = rest.overflowing_add(value);
         if over {
             passed += 1;
         }

@@ -1,5 +1,5 @@
 //! Revisions that pay exactly for a call.
-ghost use Rattle.std.specs.Prelude.{◌≡◌, ◌+◌, ◌-◌, ◌^◌, ◌<◌, ◌≤◌, length, IfOk};
+ghost use Rattle.std.specs.Prelude.{◌≡◌, ◌+◌, ◌-◌, ◌^◌, ◌<◌, ◌≤◌, length, slice_index, IfOk};
 ghost use Rattle.sia_price.specs.Payments.{HasBothParties, HasBoundedSums, least_kept, paying_missed, paying_valid, paying_revision, revision_with, with_values, values_of};
 
 use crate::payment::{missed_values, valid_values};
@@ -36,8 +36,8 @@ pub fn revise(
     Ok(Some(revision))
 }
 
-/// The revision with a new number, size, root and values, and all else as it was: as many values as there are outputs. Its error
-/// is want of memory.
+/// The revision with a new number, size, root and values, and all else as it was; an output for which there is no value stays. Its
+/// error is want of memory.
 #[tactic(auto, unfolding(crate::specs::Payments::revision_with))]
 pub fn with_terms(
     alloc: Global,
@@ -48,8 +48,6 @@ pub fn with_terms(
     valid: &[u128],
     missed: &[u128],
 ) -> Result<Revision, AllocError>
-    requires valid { length valid.now ≡ length old.now.valid }
-    requires missed { length missed.now ≡ length old.now.missed }
     ensures { IfOk result (λ revision. revision ≡ revision_with old.now number size root.now valid.now missed.now) }
 {
     Ok(Revision {
@@ -80,15 +78,26 @@ fn outputs_with(
     outputs: &[CoinOutput],
     values: &[u128],
 ) -> Result<List<CoinOutput>, AllocError>
-    requires { length values.now ≡ length outputs.now }
     ensures { IfOk result (λ list. list ≡ with_values outputs.now values.now) }
 {
     let mut changed = List::new(alloc);
     for (i, output) in outputs.iter().enumerate() {
-        changed.push(CoinOutput {
-            value: values[i],
-            ..*output
-        })?;
+        changed.push(with_value(output, values, i))?;
     }
     Ok(changed)
+}
+
+// An output with the value at a place, or as it is where there is none.
+fn with_value(output: &CoinOutput, values: &[u128], place: usize) -> CoinOutput
+    ensures given { place < length values.now → result ≡ record output.now { value = slice_index values.now place } }
+    ensures none { length values.now ≤ place → result ≡ output.now }
+{
+    if place < values.len() {
+        CoinOutput {
+            value: values[place],
+            ..*output
+        }
+    } else {
+        *output
+    }
 }

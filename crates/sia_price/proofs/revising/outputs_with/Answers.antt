@@ -10,4 +10,4 @@ returns c = c.loop-i.invariant ∙ ap (λ outputs. with_values outputs c.args.va
 pub loop-i-preserved : goal.loop-i-preserved
 loop-i-preserved c =
     rw (c.in_ok-push.ensures.ok, c.loop-i.invariant, add-one)
-    (sym (with_values-more c.args.outputs.now c.args.values.now c.loop-i.i _ 0 c.loop-i-test.true (omega (arith, c.requires))))
+    (sym (with_values-more c.args.outputs.now c.args.values.now c.loop-i.i _ c.with_value.result c.loop-i-test.true c.with_value.ensures.given c.with_value.ensures.none))
