@@ -1,2 +1,3 @@
+pub mod Changed
 pub mod Events
 pub mod Judged

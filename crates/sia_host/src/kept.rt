@@ -2,12 +2,14 @@
 ghost use Rattle.std.specs.Prelude.{◌≡◌, [], option_copied, option_to_list, IfOk};
 ghost use Rattle.sia_host.specs.State.{contract_among, first_revision as first_revision_so, formed_by};
 
+use crate::sectors::Sectors;
 use sia_blake::Hash;
 use sia_forms::both_conditions;
 use sia_ids::contract_id;
 use sia_types::{Blob, FileContract, Item, List, Revision, Transaction};
 use std::alloc::{AllocError, Global};
 use std::marker::Model;
+use std::mem::swap;
 
 /// A contract that the host knows.
 #[derive(Drop)]
@@ -22,20 +24,21 @@ pub(crate) struct KeptContract {
     pub newest: Revision,
     /// The renter's and the host's signature of that revision, or none at number 0.
     pub signatures: List<Blob>,
+    /// Its sectors.
+    pub sectors: Sectors,
 }
 
 impl Model for KeptContract {
-    ghost use Rattle.std.specs.Prelude.{[]};
     ghost use Rattle.sia_host.specs.State.{Kept};
 
     ghost Value = { Kept };
 
-    ghost view = { λ c. record { id = c.id; renter_key = c.renter_key; formation = c.formation; newest = c.newest; signatures = c.signatures; sectors = [] } };
+    ghost view = { λ c. record { id = c.id; renter_key = c.renter_key; formation = c.formation; newest = c.newest; signatures = c.signatures; sectors = c.sectors } };
 }
 
 impl KeptContract {
-    /// The contract that a whole transaction forms, its first one, between the keys of host and renter; none where it forms none.
-    /// The error is want of memory.
+    /// The contract that a whole transaction forms, its first one, between the keys of host and renter, without a sector; none where
+    /// it forms none. The error is want of memory.
     #[tactic(auto, unfolding(crate::specs::State::new_contract))]
     pub fn formed(
         alloc: Global,
@@ -57,7 +60,16 @@ impl KeptContract {
             formation: tx,
             newest,
             signatures: List::new(alloc),
+            sectors: Sectors::new(alloc),
         }))
+    }
+
+    /// Gives its sectors to another contract, which gives its own in their place. It takes no memory.
+    pub fn swap_sectors(&mut self, other: &mut KeptContract)
+        ensures gives { self.new ≡ record self.old { sectors = other.old.sectors } }
+        ensures takes { other.new ≡ record other.old { sectors = self.old.sectors } }
+    {
+        swap(&mut self.sectors, &mut other.sectors);
     }
 }
 

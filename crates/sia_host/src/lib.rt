@@ -41,6 +41,7 @@ mod locking;
 mod log;
 mod refusal;
 mod reply;
+mod sectors;
 mod session;
 mod step;
 mod stepping;
