@@ -12,11 +12,13 @@ use std::test::Fail;
 
 const SEVENS: Hash = [7; 32];
 
-fn hash(digits: &str) -> Result<Hash, Fail> {
+/// The hash of 64 hexadecimal digits.
+pub(crate) fn hash(digits: &str) -> Result<Hash, Fail> {
     Ok(<[u8; 32] as FromHex>::from_hex(digits)?)
 }
 
-fn empty_transaction(alloc: Global) -> Transaction {
+/// A transaction without anything.
+pub(crate) fn empty_transaction(alloc: Global) -> Transaction {
     Transaction {
         coin_inputs: List::new(alloc),
         coin_outputs: List::new(alloc),
