@@ -1,7 +1,7 @@
 -- What a host is, and what it answers to a command: a reply, an event and at most one record (RHP2; the events and records are
 -- this project's own).
-use Rattle.std.specs.Prelude.{◌≡◌, ℕ, ◌+◌, List, [], ◌∷◌, ◌++◌, length, nat_lt, Bool, Option, Some, None, Result, Ok, Err}
-use Rattle.std.specs.List.{count_by}
+use Rattle.std.specs.Prelude.{◌≡◌, ℕ, ◌+◌, ◌≤◌, List, [], ◌∷◌, ◌++◌, length, nat_lt, Bool, Option, Some, None, IsSome, Result, Ok, Err, vec_capacity}
+use Rattle.std.specs.List.{count_by, filter}
 use Rattle.std.specs.Option.{option_map, option_map_or, option_to_list}
 use Rattle.sia_encoding.specs.Codec.{Codec}
 use Rattle.sia_types.specs.declared.settings.Settings.{Settings}
@@ -17,10 +17,11 @@ use Rattle.sia_host.specs.declared.event.Outcome.TheVariants as outcome
 use Rattle.sia_host.specs.declared.reply.Reply.{Reply}
 use Rattle.sia_host.specs.declared.reply.Reply.TheVariants as reply
 use Rattle.sia_host.specs.declared.session.Session.{Session}
+use Rattle.sia_host.specs.declared.step.PutJob.{PutJob}
 use Rattle.sia_host.specs.declared.step.Room.{Room}
 use Rattle.sia_host.specs.declared.step.Step.{Step}
 use Rattle.sia_host.specs.Sessions.{begins, challenge_at, holder_among, live_sessions, with_number}
-use Rattle.sia_host.specs.State.{Kept, HostState, with_record, contract_among, counted_more}
+use Rattle.sia_host.specs.State.{Kept, HostState, with_record, contract_among, counted_more, is_free_slot, live_slots}
 
 -- a host: its settings, whose height isn't looked at, its margin and its seed; what it knows by its records; and the events of
 -- this run
@@ -91,11 +92,31 @@ contract_now h id = or_code NO_CONTRACT (contract_among id h.state.contracts)
 
 -- its answers
 
+-- what a command leaves to be done with the shelf: the sectors that are put into slots; the slot whose sector the reply is to have;
+-- and the slots whose sectors its record drops
+pub record Work : Type 0 where
+  pub puts : List PutJob
+  pub fetch : Option ℕ
+  pub freed : List ℕ
+
+-- nothing is to be done
+abbrev pub no_work : Work
+no_work = record { puts = []; fetch = None; freed = [] }
+
+-- a sector is to be fetched for the reply
+abbrev pub fetching : ℕ → Work
+fetching slot = record { puts = []; fetch = Some slot; freed = [] }
+
+-- the slots that a record frees: those with sectors before it that have none after it, in their order before it
+abbrev pub freed_by : Host → HostRecord → List ℕ
+freed_by h made = filter (is_free_slot (live_slots (with_record h.settings.host_key h.state made))) (live_slots h.state)
+
 -- what a command comes to; an event is noted of each but of the leave of a session that isn't live
 pub record Reaction : Type 0 where
   pub reply : Reply
   pub event : Option Event
   pub made : Option HostRecord
+  pub work : Work
 
 -- how many records there are with this one
 abbrev pub count_with : ℕ → Option HostRecord → ℕ
@@ -113,9 +134,13 @@ event_of h call contract fine made = record {
   records = count_with h.state.count made;
 }
 
--- a call that is answered: the contract that its event names, its outcome, the reply, and its record
+-- a call that is answered: the contract that its event names, its outcome, the reply, its record, and what is left to be done
+abbrev pub worked : Host → Call → Option (List ℕ) → Outcome → Reply → Option HostRecord → Work → Reaction
+worked h call contract fine said made work = record { reply = said; event = Some (event_of h call contract fine made); made = made; work = work }
+
+-- a call that is answered, and leaves nothing to be done
 abbrev pub answered : Host → Call → Option (List ℕ) → Outcome → Reply → Option HostRecord → Reaction
-answered h call contract fine said made = record { reply = said; event = Some (event_of h call contract fine made); made = made }
+answered h call contract fine said made = worked h call contract fine said made no_work
 
 -- a call that is refused
 abbrev pub refused : Host → Call → Option (List ℕ) → ℕ → Reaction
@@ -142,8 +167,18 @@ state_with host_key state (Some made) = with_record host_key state made
 abbrev pub after_answer : Host → Reaction → Host
 after_answer h a = record h { state = state_with h.settings.host_key h.state a.made; events = h.events ++ option_to_list a.event }
 
--- a step is so answered: the reply, the payload that the journal is to keep, and the host after it
+-- A step is so answered: the reply, the payload that the journal is to keep, what is left to be done, and the host after it. Where a
+-- sector is to be fetched, there is room for it.
 pub record IsReaction (h : Host) (a : Reaction) (step : Step) (after : Host) : Type 0 where
   pub reply : step.reply ≡ a.reply
   pub payload : step.payload ≡ option_map record_payload a.made
+  pub puts : step.puts ≡ a.work.puts
+  pub fetch : step.fetch ≡ a.work.fetch
+  pub sector : step.sector.items ≡ []
+  pub space : IsSome a.work.fetch → h.settings.sector ≤ vec_capacity step.sector
+  pub freed : step.freed ≡ a.work.freed
   pub host : after ≡ after_answer h a
+
+-- a step is answered by such a reaction
+abbrev pub Gives : (Reaction → Type 0) → Host → Step → Host → Type 0
+Gives Answers h step after = (a : Reaction) × Answers a × IsReaction h a step after

@@ -1,5 +1,5 @@
 -- What a host answers to each command (RHP2; siad's modules/host and doc/Consensus.md).
-use Rattle.std.specs.Prelude.{ℕ, Bool, true, false, List}
+use Rattle.std.specs.Prelude.{◌≡◌, ℕ, Bool, true, false, List}
 use Rattle.sia_host.specs.declared.command.Command.{Command}
 use Rattle.sia_host.specs.declared.command.Command.TheVariants as command
 use Rattle.sia_host.specs.declared.step.Room.{Room}
@@ -8,16 +8,16 @@ use Rattle.sia_host.specs.Entering.{enter_reaction, leave_reaction, settings_rea
 use Rattle.sia_host.specs.Feeding.{apply_reaction, revert_reaction}
 use Rattle.sia_host.specs.Locking.{lock_reaction, unlock_reaction}
 
--- The answer to a command of a worker and a session, where `accepts` judges key, hash and signature. The session isn't looked at where
--- one begins, and where no session asks.
-abbrev pub reaction_to : (List ℕ → List ℕ → List ℕ → Bool) → Host → Room → ℕ → ℕ → Command → Reaction
-reaction_to accepts h room worker session command.Enter = enter_reaction h worker
-reaction_to accepts h room worker session command.Settings = settings_reaction h worker session
-reaction_to accepts h room worker session (command.Lock request) = lock_reaction accepts h worker session request
-reaction_to accepts h room worker session command.Unlock = unlock_reaction h worker session
-reaction_to accepts h room worker session command.Leave = leave_reaction h worker session
-reaction_to accepts h room worker session (command.Apply block) = apply_reaction accepts h room worker block
-reaction_to accepts h room worker session command.Revert = revert_reaction h room worker
+-- A command of a worker and a session is answered so, where `accepts` judges key, hash and signature, and `Signs` says which
+-- signatures of a hash the host's signer may make. The session isn't looked at where one begins, and where no session asks.
+abbrev pub IsAnswer : (List ℕ → List ℕ → List ℕ → Bool) → (List ℕ → List ℕ → Type 0) → Host → Room → ℕ → ℕ → Command → Reaction → Type 0
+IsAnswer accepts Signs h room worker session command.Enter a = a ≡ enter_reaction h worker
+IsAnswer accepts Signs h room worker session command.Settings a = a ≡ settings_reaction h worker session
+IsAnswer accepts Signs h room worker session (command.Lock request) a = a ≡ lock_reaction accepts h worker session request
+IsAnswer accepts Signs h room worker session command.Unlock a = a ≡ unlock_reaction h worker session
+IsAnswer accepts Signs h room worker session command.Leave a = a ≡ leave_reaction h worker session
+IsAnswer accepts Signs h room worker session (command.Apply block) a = a ≡ apply_reaction accepts h room worker block
+IsAnswer accepts Signs h room worker session command.Revert a = a ≡ revert_reaction h room worker
 
 -- whether a command ends a session
 abbrev pub is_leave : Command → Bool

@@ -7,7 +7,7 @@ use Rattle.sia_host.specs.declared.event.Kind.TheVariants as kind
 use Rattle.sia_host.specs.declared.event.Outcome.TheVariants as outcome
 use Rattle.sia_host.specs.declared.reply.Reply.TheVariants as reply
 use Rattle.sia_host.specs.declared.session.Session.{Session}
-use Rattle.sia_host.specs.Answered.{Reaction, Host, answered, next_challenge, next_session, session_now, settings_now}
+use Rattle.sia_host.specs.Answered.{Reaction, Host, answered, next_challenge, next_session, no_work, session_now, settings_now}
 
 -- a session begins, with a number and a challenge of its own
 abbrev pub enter_reaction : Host → ℕ → Reaction
@@ -16,7 +16,7 @@ enter_reaction h worker =
 
 -- the leave of a session that is live, or of one that isn't, which leaves no event
 abbrev pub leave_given : Host → Call → Option Session → Reaction
-leave_given h call None = record { reply = reply.Error WRONG_STATE; event = None; made = None }
+leave_given h call None = record { reply = reply.Error WRONG_STATE; event = None; made = None; work = no_work }
 leave_given h call (Some session) = answered h call session.held outcome.Fine reply.Applied None
 
 -- a session ends, and what it held is free

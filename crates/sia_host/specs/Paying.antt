@@ -20,7 +20,7 @@ use Rattle.sia_host.specs.declared.step.Room.{Room}
 use Rattle.sia_host.specs.declared.event.Outcome.TheVariants as outcome
 use Rattle.sia_host.specs.Signing.{whole_hash}
 use Rattle.sia_host.specs.State.{Kept, contract_among}
-use Rattle.sia_host.specs.Answered.{Reaction, Host, answered, held_now, lacks_room, next_height, or_code, refused}
+use Rattle.sia_host.specs.Answered.{Reaction, Host, Work, held_now, lacks_room, next_height, no_work, or_code, refused, worked}
 
 -- the contract
 
@@ -104,15 +104,21 @@ revising_fault accepts room c revision renter made =
     or_else broken (not (signs_revision accepts c revision renter)) BAD_SIGNATURE
 
 -- what follows from that
-abbrev pub revised_unless : Host → Call → Kept → Reply → HostRecord → Option ℕ → Reaction
-revised_unless h call c said made (Some code) = refused h call (Some c.id) code
-revised_unless h call c said made None = answered h call (Some c.id) outcome.Fine said (Some made)
+abbrev pub revised_unless : Host → Call → Kept → Reply → HostRecord → Work → Option ℕ → Reaction
+revised_unless h call c said made work (Some code) = refused h call (Some c.id) code
+revised_unless h call c said made work None = worked h call (Some c.id) outcome.Fine said (Some made) work
 
--- A revision with its changes is answered so: the host signs it, and `said` is what it replies with its signature.
-abbrev pub IsRevised : (List ℕ → List ℕ → List ℕ → Bool) → (List ℕ → List ℕ → Type 0) → Host → Room → Call → Kept → Revision → List ℕ → List Change → (List ℕ → Reply) → Reaction → Type 0
-IsRevised accepts Signs h room call c revision renter changes said a =
+-- A revision with its changes is answered so: the host signs it, `said` is what it replies with its signature, and `works` what its
+-- record leaves to be done.
+abbrev pub IsRevised : (List ℕ → List ℕ → List ℕ → Bool) → (List ℕ → List ℕ → Type 0) → Host → Room → Call → Kept → Revision → List ℕ → List Change → (List ℕ → Reply) → (HostRecord → Work) → Reaction → Type 0
+IsRevised accepts Signs h room call c revision renter changes said works a =
     (host : List ℕ) × Signs (revision_hash revision 1) host
-    × (a ≡ revised_unless h call c (said host) (records.Revised revision renter host changes) (revising_fault accepts room c revision renter (records.Revised revision renter host changes)))
+    × (let made = records.Revised revision renter host changes in
+    a ≡ revised_unless h call c (said host) made (works made) (revising_fault accepts room c revision renter made))
+
+-- a revision that changes no sector leaves nothing to be done
+abbrev pub works_not : HostRecord → Work
+works_not made = no_work
 
 -- A request about the held contract is answered so: refused with the contract's judgement, or with the request's own; else by what
 -- follows. Its event names the contract that the session holds.

@@ -1,7 +1,7 @@
 -- Which records follow on what a host knows: those that some command makes, whatever the settings and the room of their day, the
 -- host's additions and its own signature of a revision.
 use Rattle.std.specs.Prelude.{◌≡◌, ℕ, ◌+◌, ◌*◌, Bool, true, false, List, [], ◌∷◌, length, map, take, nat_lt, nat_le, not, ◌==◌, ◌&&◌, Option, Some, None, if◌then◌else◌}
-use Rattle.std.specs.List.{filter, filter_map, list_any, range_with_len}
+use Rattle.std.specs.List.{filter, filter_map, range_with_len}
 use Rattle.std.specs.Option.{is_none, option_map_or}
 use Rattle.std.specs.Str.{bytes_eq}
 use Rattle.sia_encoding.specs.declared.limits.TheConstants.{ACTIONS}
@@ -24,7 +24,7 @@ use Rattle.sia_records.specs.declared.change.Change.TheVariants as changes
 use Rattle.sia_records.specs.declared.host_record.HostRecord.{HostRecord}
 use Rattle.sia_records.specs.declared.host_record.HostRecord.TheVariants as records
 use Rattle.sia_records.specs.Stored.{step_of}
-use Rattle.sia_host.specs.State.{Kept, contract_among, is_among, live_slots}
+use Rattle.sia_host.specs.State.{Kept, contract_among, is_among, is_free_slot, live_slots}
 use Rattle.sia_host.specs.Paying.{Payment, is_late, is_low, paid_revision, signs_revision, was_cleared}
 use Rattle.sia_host.specs.Writing.{roots_of}
 use Rattle.sia_host.specs.Answered.{Host}
@@ -81,10 +81,6 @@ abbrev pub slot_taken : Change → Option ℕ
 slot_taken (changes.Append root slot) = Some slot
 slot_taken (changes.Set place root slot) = Some slot
 slot_taken other = None
-
--- a slot has no sector
-abbrev pub is_free_slot : List ℕ → ℕ → Bool
-is_free_slot live slot = not (list_any (λ (other : ℕ). other == slot) live)
 
 -- the least slots without a sector, so many
 abbrev pub least_free : List ℕ → ℕ → List ℕ

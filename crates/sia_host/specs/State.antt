@@ -1,7 +1,7 @@
 -- What a host knows by the records of its journal: its chain, and of each contract the renter's key, the transaction that formed
 -- it, its newest revision with both signatures, and its sectors (RHP2; siad's modules/host).
-use Rattle.std.specs.Prelude.{ℕ, ◌+◌, ◌-◌, ◌^◌, min, Bool, List, [], ◌∷◌, ◌++◌, map, find, ◌==◌, ◌&&◌, if◌then◌else◌, Option, Some, None}
-use Rattle.std.specs.List.{fold, flat_map}
+use Rattle.std.specs.Prelude.{ℕ, ◌+◌, ◌-◌, ◌^◌, min, Bool, List, [], ◌∷◌, ◌++◌, map, find, ◌==◌, ◌&&◌, not, if◌then◌else◌, Option, Some, None}
+use Rattle.std.specs.List.{fold, flat_map, list_any}
 use Rattle.std.specs.Option.{option_map_or, is_some}
 use Rattle.std.specs.Str.{bytes_eq}
 use Rattle.sia_types.specs.declared.file_contracts.FileContract.{FileContract}
@@ -147,3 +147,7 @@ host_state host_key params records = fold (with_record host_key) (first_state pa
 -- the slots that have sectors
 abbrev pub live_slots : HostState → List ℕ
 live_slots state = flat_map (λ (c : Kept). map (λ (s : Stored). s.slot) c.sectors) state.contracts
+
+-- a slot has no sector, by those that have
+abbrev pub is_free_slot : List ℕ → ℕ → Bool
+is_free_slot live slot = not (list_any (λ (other : ℕ). other == slot) live)

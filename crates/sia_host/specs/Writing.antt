@@ -17,6 +17,7 @@ use Rattle.sia_rhp.specs.declared.answer.Answer.TheVariants as answer
 use Rattle.sia_rhp.specs.declared.answer_bodies.WriteAnswer.{WriteAnswer}
 use Rattle.sia_rhp.specs.declared.request_bodies.WriteRequest.{WriteRequest}
 use Rattle.sia_records.specs.declared.change.Change.{Change}
+use Rattle.sia_records.specs.declared.host_record.HostRecord.{HostRecord}
 use Rattle.sia_records.specs.Stored.{Stored, changes_of}
 use Rattle.sia_records.specs.Writes.{Prepared, is_prepared, is_update, sectors_of, steps_of, updates_of}
 use Rattle.sia_host.specs.declared.call.Call.{Call}
@@ -25,10 +26,11 @@ use Rattle.sia_host.specs.declared.event.Kind.TheVariants as kind
 use Rattle.sia_host.specs.declared.event.Outcome.TheVariants as outcome
 use Rattle.sia_host.specs.declared.reply.Reply.{Reply}
 use Rattle.sia_host.specs.declared.reply.Reply.TheVariants as reply
+use Rattle.sia_host.specs.declared.step.PutJob.{PutJob}
 use Rattle.sia_host.specs.declared.step.Room.{Room}
 use Rattle.sia_host.specs.State.{Kept}
 use Rattle.sia_host.specs.Paying.{IsHeld, IsRevised, Payment, open_now, paid_revision, unpaid}
-use Rattle.sia_host.specs.Answered.{Reaction, Host, answered}
+use Rattle.sia_host.specs.Answered.{Reaction, Host, Work, answered, freed_by}
 
 -- a contract's sectors
 
@@ -117,6 +119,16 @@ IsWritten h room worker session write a =
 abbrev pub written_changes : Room → Prepared → List Change
 written_changes room write = changes_of (steps_of write) room.free
 
+-- the sectors, each in the next of these slots
+abbrev pub put_jobs : List ℕ → List (List ℕ) → List PutJob
+put_jobs (slot ∷ slots) (sector ∷ sectors) = record { slot = slot; bytes = sector } ∷ put_jobs slots sectors
+put_jobs slots sectors = []
+
+-- what is left to be done by the record of a write: each new sector is put into the next of the least free slots; the slots whose
+-- sectors are dropped are free
+abbrev pub write_work : Host → Room → Prepared → HostRecord → Work
+write_work h room write made = record { puts = put_jobs room.free (sectors_of write); fetch = None; freed = freed_by h made }
+
 -- the reply to a signed write: the host's signature
 abbrev pub write_signed : List ℕ → Reply
 write_signed host = reply.Said (answer.WriteSign host)
@@ -126,4 +138,4 @@ abbrev pub IsWriteSigned : (List ℕ → List ℕ → List ℕ → Bool) → (Li
 IsWriteSigned accepts Signs h room worker session write renter a =
     let call : Call = record { worker = worker; session = session; kind = kind.WriteSign } in
     IsHeld h call (open_now h session) (write_fault h room write)
-    (λ c a. IsRevised accepts Signs h room call c (written_revision h write c) renter (written_changes room write) write_signed a) a
+    (λ c a. IsRevised accepts Signs h room call c (written_revision h write c) renter (written_changes room write) write_signed (write_work h room write) a) a

@@ -10,11 +10,11 @@ use crate::host_core::Core;
 use crate::reply::Reply;
 use crate::step::Step;
 use sia_rhp::Answer;
-use std::alloc::AllocError;
+use std::alloc::{AllocError, Global};
 
 impl Core {
     /// A session begins.
-    pub(crate) fn enter(&mut self, worker: u64) -> Result<Step, AllocError>
+    pub(crate) fn enter(&mut self, alloc: Global, worker: u64) -> Result<Step, AllocError>
         ensures gives { IfOk result (λ step. IsReaction self.old (enter_reaction self.old worker) step self.new) }
         ensures kept { OnErr result (self.new ≡ self.old) }
     {
@@ -28,6 +28,7 @@ impl Core {
             kind: Kind::Enter,
         };
         self.answer(
+            alloc,
             call,
             None,
             Outcome::Fine,
@@ -36,14 +37,11 @@ impl Core {
     }
 
     /// A session ends. It takes no memory.
-    pub(crate) fn leave(&mut self, worker: u64, session: u64) -> Step
+    pub(crate) fn leave(&mut self, alloc: Global, worker: u64, session: u64) -> Step
         ensures { IsReaction self.old (leave_reaction self.old worker session) result self.new }
     {
         let Some(live) = self.log.session(session) else {
-            return Step {
-                reply: Reply::Error { code: WRONG_STATE },
-                payload: None,
-            };
+            return Step::plain(alloc, Reply::Error { code: WRONG_STATE }, None);
         };
         let call = Call {
             worker,
@@ -53,14 +51,16 @@ impl Core {
         let held = live.held;
         let event = self.event(call, held, Outcome::Fine);
         self.log.note_leave(event);
-        Step {
-            reply: Reply::Applied,
-            payload: None,
-        }
+        Step::plain(alloc, Reply::Applied, None)
     }
 
     /// The settings are told.
-    pub(crate) fn tell_settings(&mut self, worker: u64, session: u64) -> Result<Step, AllocError>
+    pub(crate) fn tell_settings(
+        &mut self,
+        alloc: Global,
+        worker: u64,
+        session: u64,
+    ) -> Result<Step, AllocError>
         ensures gives { IfOk result (λ step. IsReaction self.old (settings_reaction self.old worker session) step self.new) }
         ensures kept { OnErr result (self.new ≡ self.old) }
     {
@@ -71,6 +71,7 @@ impl Core {
             kind: Kind::Settings,
         };
         self.answer(
+            alloc,
             call,
             None,
             Outcome::Fine,

@@ -94,8 +94,8 @@ impl Core {
         ensures kept { OnErr result (self.new ≡ self.old) }
     {
         match judge_block(alloc, &self.ledger, block, check)? {
-            Some(fault) => self.refuse_block(call, fault),
-            None => self.refuse(call, None, STORE_FULL),
+            Some(fault) => self.refuse_block(alloc, call, fault),
+            None => self.refuse(alloc, call, None, STORE_FULL),
         }
     }
 
@@ -115,26 +115,34 @@ impl Core {
     {
         self.log.reserve()?;
         match put_block(alloc, &mut self.ledger, block, check)? {
-            Some(fault) => self.refuse_block(call, fault),
+            Some(fault) => self.refuse_block(alloc, call, fault),
             None => {
                 self.records = self.records.saturating_add(1);
                 let event = self.event(call, None, Outcome::Fine);
                 self.log.note(event);
-                Ok(Step {
-                    reply: Reply::Applied,
-                    payload: Some(framed),
-                })
+                Ok(Step::plain(alloc, Reply::Applied, Some(framed)))
             }
         }
     }
 
     // A block is refused, by the rule that it breaks.
-    fn refuse_block(&mut self, call: Call, fault: BlockFault) -> Result<Step, AllocError>
+    fn refuse_block(
+        &mut self,
+        alloc: Global,
+        call: Call,
+        fault: BlockFault,
+    ) -> Result<Step, AllocError>
         ensures gives { IfOk result (λ step. IsReaction self.old (answered self.old call None (outcome.Block (rule_number_so fault)) (reply.Refused fault) None) step self.new) }
         ensures kept { OnErr result (self.new ≡ self.old) }
     {
         let number = rule_number(&fault);
-        self.answer(call, None, Outcome::Block(number), Reply::Refused(fault))
+        self.answer(
+            alloc,
+            call,
+            None,
+            Outcome::Block(number),
+            Reply::Refused(fault),
+        )
     }
 
     /// The last block is dropped.
@@ -150,21 +158,18 @@ impl Core {
     {
         let call = feed_call(worker, Kind::Revert);
         if self.ledger.height() == 0 {
-            return self.answer(call, None, Outcome::NoBlock, Reply::NoBlock);
+            return self.answer(alloc, call, None, Outcome::NoBlock, Reply::NoBlock);
         }
         let framed = frame(alloc, &HostRecord::Revert)?;
         if lacks_room(room, &framed) {
-            return self.refuse(call, None, STORE_FULL);
+            return self.refuse(alloc, call, None, STORE_FULL);
         }
         self.log.reserve()?;
         drop_block(&mut self.ledger)?;
         self.records = self.records.saturating_add(1);
         let event = self.event(call, None, Outcome::Fine);
         self.log.note(event);
-        Ok(Step {
-            reply: Reply::Applied,
-            payload: Some(framed),
-        })
+        Ok(Step::plain(alloc, Reply::Applied, Some(framed)))
     }
 }
 

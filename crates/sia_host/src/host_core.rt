@@ -144,6 +144,7 @@ impl Core {
     /// Notes the event of a call that makes no record, and replies.
     pub(crate) fn answer(
         &mut self,
+        alloc: Global,
         call: Call,
         contract: Option<Hash>,
         outcome: Outcome,
@@ -155,15 +156,13 @@ impl Core {
         self.log.reserve()?;
         let event = self.event(call, contract, outcome);
         self.log.note(event);
-        Ok(Step {
-            reply,
-            payload: None,
-        })
+        Ok(Step::plain(alloc, reply, None))
     }
 
     /// Notes the event of a call that is refused, and replies its code.
     pub(crate) fn refuse(
         &mut self,
+        alloc: Global,
         call: Call,
         contract: Option<Hash>,
         code: u64,
@@ -171,7 +170,13 @@ impl Core {
         ensures gives { IfOk result (λ step. IsReaction self.old (refused self.old call contract code) step self.new) }
         ensures kept { OnErr result (self.new ≡ self.old) }
     {
-        self.answer(call, contract, Outcome::Code(code), Reply::Error { code })
+        self.answer(
+            alloc,
+            call,
+            contract,
+            Outcome::Code(code),
+            Reply::Error { code },
+        )
     }
 
     /// The event of a call, with as many records as there are.

@@ -8,7 +8,7 @@
 //!
 //! ```
 //! let mut core = Core::new(alloc, config, seed)?;
-//! let step = core.step(alloc, worker, session, Command::Lock(request), &room, &check)?;
+//! let step = core.step(alloc, worker, session, Command::Lock(request), &room, &check, &signer)?;
 //! let told = core.events();
 //! ```
 //!
@@ -53,4 +53,4 @@ pub use event::{Event, Kind, Outcome};
 pub use host_core::Core;
 pub use reply::Reply;
 pub use session::{Effect, Session};
-pub use step::{Room, Step};
+pub use step::{PutJob, Room, Step};

@@ -45,7 +45,7 @@ impl Core {
         let id = request.contract;
         match self.judge_lock(session, request, check) {
             Err(Refusal::Memory) => Err(AllocError),
-            Err(Refusal::Code(code)) => self.refuse(call, Some(id), code),
+            Err(Refusal::Code(code)) => self.refuse(alloc, call, Some(id), code),
             Ok(contract) => {
                 let answer = self.acquired(alloc, contract)?;
                 self.lock_judged(alloc, call, &id, answer)
@@ -69,6 +69,7 @@ impl Core {
             Some(holder) => {
                 let missed = self.missed(alloc, holder);
                 self.answer(
+                    alloc,
                     call,
                     Some(named),
                     Outcome::Held(holder),
@@ -76,6 +77,7 @@ impl Core {
                 )
             }
             None => self.answer(
+                alloc,
                 call,
                 Some(named),
                 Outcome::Fine,
@@ -85,7 +87,12 @@ impl Core {
     }
 
     /// A session gives its lock back.
-    pub(crate) fn unlock(&mut self, worker: u64, session: u64) -> Result<Step, AllocError>
+    pub(crate) fn unlock(
+        &mut self,
+        alloc: Global,
+        worker: u64,
+        session: u64,
+    ) -> Result<Step, AllocError>
         ensures gives { IfOk result (λ step. IsReaction self.old (unlock_reaction self.old worker session) step self.new) }
         ensures kept { OnErr result (self.new ≡ self.old) }
     {
@@ -95,8 +102,14 @@ impl Core {
             kind: Kind::Unlock,
         };
         match self.held(session) {
-            None => self.refuse(call, None, WRONG_STATE),
-            Some(id) => self.answer(call, Some(id), Outcome::Fine, Reply::Said(Answer::Unlock)),
+            None => self.refuse(alloc, call, None, WRONG_STATE),
+            Some(id) => self.answer(
+                alloc,
+                call,
+                Some(id),
+                Outcome::Fine,
+                Reply::Said(Answer::Unlock),
+            ),
         }
     }
 

@@ -1,20 +1,21 @@
 //! The answer to each command.
 ghost use Rattle.std.specs.Prelude.{◌≡◌, false, IfOk, OnErr};
-ghost use Rattle.sia_host.specs.Answered.{IsReaction};
-ghost use Rattle.sia_host.specs.Answers.{reaction_to, is_leave};
+ghost use Rattle.sia_host.specs.Answered.{Gives};
+ghost use Rattle.sia_host.specs.Answers.{IsAnswer, is_leave};
 
 use crate::command::Command;
 use crate::host_core::Core;
 use crate::step::{Room, Step};
-use sia_edge::SigCheck;
+use sia_edge::{SigCheck, Signer};
 use std::alloc::{AllocError, Global};
 
 impl Core {
-    /// Answers a command of a worker and a session, in the room that the journal has left; the check judges signatures. It notes an
-    /// event, but for the leave of a session that isn't live, and may make a record, which the journal is to keep.
+    /// Answers a command of a worker and a session, in the room that the disks have left; the check judges signatures, and the signer
+    /// makes the host's. It notes an event, but for the leave of a session that isn't live, and may make a record, which the
+    /// journal is to keep.
     ///
     /// Its error is want of memory: then all is as before. A leave takes no memory.
-    pub fn step<C: SigCheck>(
+    pub fn step<C: SigCheck, G: Signer>(
         &mut self,
         alloc: Global,
         worker: u64,
@@ -22,17 +23,19 @@ impl Core {
         command: Command,
         room: &Room,
         check: &C,
+        signer: &G,
     ) -> Result<Step, AllocError>
-        ensures answers { IfOk result (λ step. IsReaction self.old (reaction_to C.verdict self.old room.now worker session command) step self.new) }
+        requires key { G.public_key signer.now ≡ self.old.settings.host_key }
+        ensures answers { IfOk result (λ step. Gives (IsAnswer C.verdict (G.Makes (G.public_key signer.now)) self.old room.now worker session command) self.old step self.new) }
         ensures unchanged { OnErr result (self.new ≡ self.old) }
         ensures leaves { OnErr result (is_leave command ≡ false) }
     {
         match command {
-            Command::Enter => self.enter(worker),
-            Command::Settings => self.tell_settings(worker, session),
+            Command::Enter => self.enter(alloc, worker),
+            Command::Settings => self.tell_settings(alloc, worker, session),
             Command::Lock(request) => self.lock(alloc, worker, session, &request, check),
-            Command::Unlock => self.unlock(worker, session),
-            Command::Leave => Ok(self.leave(worker, session)),
+            Command::Unlock => self.unlock(alloc, worker, session),
+            Command::Leave => Ok(self.leave(alloc, worker, session)),
             Command::Apply(block) => self.apply(alloc, room, worker, block, check),
             Command::Revert => self.revert(alloc, room, worker),
         }
