@@ -1,5 +1,5 @@
-//! Tests of digests, trees, ranges and diffs, a table for each theme. Each case has its expected values from outside of
-//! this repository's code: they are those of Python's hashlib, with the recursion of the trees written out.
+//! Tests of digests, trees, ranges, diffs and storage proofs, a table for each theme. Each case has its expected values from
+//! outside of this repository's code: they are those of Python's hashlib, with the recursion of the trees written out.
 #![tactic(auto)]
 
 #[cfg(test)]
@@ -14,6 +14,8 @@ mod encoding;
 mod merkle;
 #[cfg(test)]
 mod pieces;
+#[cfg(test)]
+mod prover;
 #[cfg(test)]
 mod range;
 #[cfg(test)]
