@@ -6,6 +6,7 @@ use Rattle.sia_host.specs.declared.step.Room.{Room}
 use Rattle.sia_host.specs.Answered.{Reaction, Host}
 use Rattle.sia_host.specs.Entering.{enter_reaction, leave_reaction, settings_reaction}
 use Rattle.sia_host.specs.Feeding.{apply_reaction, revert_reaction}
+use Rattle.sia_host.specs.Forming.{IsFormed, IsFormSigned}
 use Rattle.sia_host.specs.Locking.{lock_reaction, unlock_reaction}
 
 -- A command of a worker and a session is answered so, where `accepts` judges key, hash and signature, and `Signs` says which
@@ -13,6 +14,8 @@ use Rattle.sia_host.specs.Locking.{lock_reaction, unlock_reaction}
 abbrev pub IsAnswer : (List ℕ → List ℕ → List ℕ → Bool) → (List ℕ → List ℕ → Type 0) → Host → Room → ℕ → ℕ → Command → Reaction → Type 0
 IsAnswer accepts Signs h room worker session command.Enter a = a ≡ enter_reaction h worker
 IsAnswer accepts Signs h room worker session command.Settings a = a ≡ settings_reaction h worker session
+IsAnswer accepts Signs h room worker session (command.Form request) a = IsFormed h worker session request a
+IsAnswer accepts Signs h room worker session (command.FormSign request renter) a = IsFormSigned accepts Signs h room worker session request renter a
 IsAnswer accepts Signs h room worker session (command.Lock request) a = a ≡ lock_reaction accepts h worker session request
 IsAnswer accepts Signs h room worker session command.Unlock a = a ≡ unlock_reaction h worker session
 IsAnswer accepts Signs h room worker session command.Leave a = a ≡ leave_reaction h worker session

@@ -131,11 +131,14 @@ abbrev pub form_kept : (List ℕ → List ℕ → List ℕ → Bool) → Host �
 form_kept accepts h room call renter_key tx signatures =
     form_unless h call renter_key tx signatures (keeping_fault (lacks_room room (records.Formed renter_key tx)) (set_refusal accepts h.state.chain tx))
 
--- A formation is signed and answered so, on what the host finds now: its proposal is judged again; then the host signs its inputs.
+-- a formation is signed and answered so, with what the host adds: the host signs its inputs
+abbrev pub FormsSigned : (List ℕ → List ℕ → List ℕ → Bool) → (List ℕ → List ℕ → Type 0) → Host → Room → Call → FormRequest → List Signature → Additions → Reaction → Type 0
+FormsSigned accepts Signs h room call request renter added a =
+    (host : List Signature) × AreSignedInputs Signs (with_additions request.transaction added) added.inputs host
+    × (a ≡ form_kept accepts h room call request.renter_key (finished request.transaction added renter host) host)
+
+-- A formation is signed and answered so, on what the host finds now: its proposal is judged again.
 abbrev pub IsFormSigned : (List ℕ → List ℕ → List ℕ → Bool) → (List ℕ → List ℕ → Type 0) → Host → Room → ℕ → ℕ → FormRequest → List Signature → Reaction → Type 0
 IsFormSigned accepts Signs h room worker session request renter a =
     let call : Call = record { worker = worker; session = session; kind = kind.FormSign } in
-    IsProposed h call None request.transaction (form_judged h session request)
-    (λ added a. (host : List Signature) × AreSignedInputs Signs (with_additions request.transaction added) added.inputs host
-    × (a ≡ form_kept accepts h room call request.renter_key (finished request.transaction added renter host) host))
-    a
+    IsProposed h call None request.transaction (form_judged h session request) (FormsSigned accepts Signs h room call request renter) a

@@ -9,6 +9,7 @@ pub mod Locking
 pub mod Feeding
 pub mod Signing
 pub mod Forming
+pub mod Proposals
 pub mod Answers
 pub mod Paying
 pub mod Writing

@@ -1,6 +1,6 @@
 //! What a host is asked for.
-use sia_rhp::LockRequest;
-use sia_types::Block;
+use sia_rhp::{FormRequest, LockRequest};
+use sia_types::{Block, List, Signature};
 
 /// What a host is asked for: by sessions, and by the feed of blocks.
 #[derive(Drop)]
@@ -9,6 +9,10 @@ pub enum Command {
     Enter,
     /// To tell the settings.
     Settings,
+    /// To propose a formation.
+    Form(FormRequest),
+    /// To sign it, with the renter's signatures.
+    FormSign(FormRequest, List<Signature>),
     /// To let the session hold a contract.
     Lock(LockRequest),
     /// To let it hold the contract no more.

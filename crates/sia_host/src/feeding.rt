@@ -2,7 +2,7 @@
 ghost use Rattle.std.specs.Prelude.{◌≡◌, ◌+◌, ◌<◌, None, Some, Ok, IfOk, IsSome, MatchResult, OnErr, OnOk, length, nat_lt, true, false};
 ghost use Rattle.sia_encoding.specs.Answer.{Answers as Tells, unless};
 ghost use Rattle.sia_ledger.specs.Chain.{extended, height, shortened};
-ghost use Rattle.sia_ledger.specs.Refusal.{refusal};
+ghost use Rattle.sia_ledger.specs.Refusal.{refusal, set_refusal};
 ghost use Rattle.sia_records.specs.declared.host_record.HostRecord.TheVariants as records;
 ghost use Rattle.sia_types.specs.declared.block.Block.{Block as Mined};
 ghost use Rattle.sia_rules.specs.Answers.{block_told};
@@ -22,7 +22,7 @@ use sia_encoding::{Blob, Item, Steps};
 use sia_journal::RecordBuf;
 use sia_ledger::{BlockFault, Ledger, RevertFault};
 use sia_records::HostRecord;
-use sia_types::Block;
+use sia_types::{Block, Transaction};
 use std::alloc::{AllocError, Global};
 use std::marker::Brand;
 use std::sync::ledger::{Blank, Ledger as StepBook};
@@ -206,6 +206,25 @@ fn judge_block<C: SigCheck>(
     ensures { IfOk result (λ fault. fault ≡ refusal C.verdict ledger.now block.now) }
 {
     match judge_counted::<C, Brand>(alloc, ledger, block, check, Blank::new(1)) {
+        Ok(()) => Ok(None),
+        Err(fault) => match told(fault) {
+            None => Err(AllocError),
+            Some(broken) => Ok(Some(broken)),
+        },
+    }
+}
+
+/// The rule that a transaction breaks as the first of a next block, if it breaks one.
+#[tactic(auto, using(crate::proofs::Judged::fault_said, crate::proofs::Judged::nothing_said))]
+pub(crate) fn judge_set<C: SigCheck>(
+    alloc: Global,
+    ledger: &Ledger,
+    tx: &Transaction,
+    check: &C,
+) -> Result<Option<BlockFault>, AllocError>
+    ensures { IfOk result (λ fault. fault ≡ set_refusal C.verdict ledger.now tx.now) }
+{
+    match ledger.check_set(alloc, tx, check) {
         Ok(()) => Ok(None),
         Err(fault) => match told(fault) {
             None => Err(AllocError),

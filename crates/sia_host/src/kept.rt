@@ -1,5 +1,5 @@
 //! What a host keeps of a contract.
-ghost use Rattle.std.specs.Prelude.{◌≡◌, [], option_copied, option_to_list, IfOk};
+ghost use Rattle.std.specs.Prelude.{◌≡◌, ◌++◌, [], option_copied, option_to_list, IfOk, OnOk, OnErr};
 ghost use Rattle.sia_host.specs.State.{contract_among, first_revision as first_revision_so, formed_by};
 
 use crate::sectors::Sectors;
@@ -106,4 +106,18 @@ pub(crate) fn find_contract<'a>(
     ensures { option_copied result ≡ contract_among id.now contracts.now }
 {
     contracts.as_slice().iter().find(|c| c.id == *id)
+}
+
+/// Puts a contract behind the others, if there is one. The error is want of memory: then the contracts stay.
+pub(crate) fn push_kept(
+    contracts: &mut List<KeptContract>,
+    kept: Option<KeptContract>,
+) -> Result<(), AllocError>
+    ensures ok { OnOk result (contracts.new ≡ contracts.old ++ option_to_list kept) }
+    ensures err { OnErr result (contracts.new ≡ contracts.old) }
+{
+    match kept {
+        None => Ok(()),
+        Some(contract) => contracts.push(contract),
+    }
 }

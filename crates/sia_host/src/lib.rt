@@ -2,9 +2,9 @@
 //!
 //! A host holds contracts with renters, and a session that has a contract's lock may work with it (RHP2; siad's modules/host and
 //! modules/negotiate.go). A command is answered by one reply, one event and at most one record of the journal; what the host knows
-//! is the fold of its records. Events, records, codes and the challenge are this project's own. So far sessions, locks and the
-//! blocks of the chain have calls; contracts are formed by no command yet. What is said of other commands in specs/, to form, to write,
-//! to read, to renew and to prove, is cited by no clause yet.
+//! is the fold of its records. Events, records, codes and the challenge are this project's own. So far sessions, locks, formations
+//! and the blocks of the chain have calls. What is said of other commands in specs/, to write, to read, to renew and to prove, is
+//! cited by no clause yet.
 //!
 //! ```
 //! let mut core = Core::new(alloc, config, seed)?;
@@ -17,15 +17,17 @@
 //! - [`Core::new`] begins without a block, a contract and a session, or answers exactly the fault of the chain's genesis.
 //! - [`Core::step`] gives exactly the reply, the event and at most the one record that the definitions say of what the host knows,
 //!   of its events and of the journal's room, and the host is then what these make of it. A lock is acquired only where no session
-//!   holds the contract; a leave frees what its session held, and always has memory. After want of memory all is as before.
+//!   holds the contract; a leave frees what its session held, and always has memory. For a formation the host adds coins of its own
+//!   that no other contract's formation spends, and its signatures are ones that the signer may make of the whole transaction.
+//!   After want of memory all is as before.
 //! - [`Core::events`], [`Core::sums`], [`Core::tip`] and [`Core::records`] are those of the present host.
 //!
 //! # Stands on
 //!
 //! sia_ledger for the chain, sia_records and sia_journal for records and their frames, sia_rhp for requests and answers, sia_forms for
-//! the parties' conditions, sia_ids, sia_blake and sia_edge for identifiers, challenges and signatures, sia_types, sia_rules and
-//! sia_encoding for what all of these say. Definitions of the commands to come cite sia_price, sia_sign, sia_prover, sia_diff,
-//! sia_range and sia_merkle besides.
+//! formations and the parties' conditions, sia_ids, sia_blake, sia_sign and sia_edge for identifiers, challenges and signatures,
+//! sia_roottree for the roots of a contract's sectors, sia_types, sia_rules and sia_encoding for what all of these say. Definitions
+//! of the commands to come cite sia_price, sia_prover, sia_diff, sia_range and sia_merkle besides.
 #![tactic(auto)]
 
 mod call;
@@ -35,14 +37,17 @@ mod config;
 mod entering;
 mod event;
 mod feeding;
+mod forming;
 mod host_core;
 mod kept;
 mod locking;
 mod log;
+mod proposals;
 mod refusal;
 mod reply;
 mod sectors;
 mod session;
+mod signing;
 mod step;
 mod stepping;
 

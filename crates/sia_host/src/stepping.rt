@@ -33,6 +33,10 @@ impl Core {
         match command {
             Command::Enter => self.enter(alloc, worker),
             Command::Settings => self.tell_settings(alloc, worker, session),
+            Command::Form(request) => self.form(alloc, worker, session, &request),
+            Command::FormSign(request, renter) => self.form_sign(
+                alloc, room, worker, session, request, renter, check, signer,
+            ),
             Command::Lock(request) => self.lock(alloc, worker, session, &request, check),
             Command::Unlock => self.unlock(alloc, worker, session),
             Command::Leave => Ok(self.leave(alloc, worker, session)),

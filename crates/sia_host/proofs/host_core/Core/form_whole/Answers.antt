@@ -1,0 +1,7 @@
+-- A copy of the host's signatures stands in the whole transaction.
+use Rattle.sia_host.proofs.Formed.{forms}
+use Rattle.sia_host.proofs.host_core.Core.form_whole.Goals as goal
+
+pub returns-clause-gives : goal.returns-clause-gives
+returns-clause-gives g c =
+    forms g.C.SigCheck.verdict (g.G.Signer.Makes (g.G.Signer.public_key c.args.signer.now)) c.args.self.now c.args.room.now c.args.call c.args.request c.args.renter c.args.added _ _ _ _ _ _ _ c.in_ok-unsigned.ensures.whole c.as_slice.ensures c.in_ok-host.ensures c.in_ok-whole.ensures c.in_ok-signatures.ensures.signed c.form_kept.ensures.gives
