@@ -6,3 +6,4 @@ pub mod Proposed
 pub mod Signed
 pub mod Given
 pub mod Formed
+pub mod Walked

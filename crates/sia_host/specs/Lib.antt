@@ -18,3 +18,4 @@ pub mod Reading
 pub mod Renewing
 pub mod Jobs
 pub mod Replaying
+pub mod Least

@@ -50,6 +50,7 @@ mod session;
 mod signing;
 mod step;
 mod stepping;
+mod waiting;
 
 pub use call::Call;
 pub use command::Command;
