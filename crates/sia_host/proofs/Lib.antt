@@ -1,5 +1,6 @@
 pub mod Changed
 pub mod Events
+pub mod Held
 pub mod Judged
 pub mod Funding
 pub mod Proposed
@@ -7,3 +8,5 @@ pub mod Signed
 pub mod Given
 pub mod Formed
 pub mod Walked
+pub mod Steps
+pub mod Writable

@@ -5,9 +5,11 @@ use Rattle.sia_host.specs.declared.command.Command.TheVariants as command
 use Rattle.sia_host.specs.declared.step.Room.{Room}
 use Rattle.sia_host.specs.Answered.{Reaction, Host}
 use Rattle.sia_host.specs.Entering.{enter_reaction, leave_reaction, settings_reaction}
+use Rattle.sia_host.specs.Fetching.{fetch_reaction}
 use Rattle.sia_host.specs.Feeding.{apply_reaction, revert_reaction}
 use Rattle.sia_host.specs.Forming.{IsFormed, IsFormSigned}
 use Rattle.sia_host.specs.Locking.{lock_reaction, unlock_reaction}
+use Rattle.sia_host.specs.Writing.{IsWritten}
 
 -- A command of a worker and a session is answered so, where `accepts` judges key, hash and signature, and `Signs` says which
 -- signatures of a hash the host's signer may make. The session isn't looked at where one begins, and where no session asks.
@@ -18,6 +20,8 @@ IsAnswer accepts Signs h room worker session (command.Form request) a = IsFormed
 IsAnswer accepts Signs h room worker session (command.FormSign request renter) a = IsFormSigned accepts Signs h room worker session request renter a
 IsAnswer accepts Signs h room worker session (command.Lock request) a = a ≡ lock_reaction accepts h worker session request
 IsAnswer accepts Signs h room worker session command.Unlock a = a ≡ unlock_reaction h worker session
+IsAnswer accepts Signs h room worker session (command.Fetch want) a = a ≡ fetch_reaction h worker session want
+IsAnswer accepts Signs h room worker session (command.Write write) a = IsWritten h room worker session write a
 IsAnswer accepts Signs h room worker session command.Leave a = a ≡ leave_reaction h worker session
 IsAnswer accepts Signs h room worker session (command.Apply block) a = a ≡ apply_reaction accepts h room worker block
 IsAnswer accepts Signs h room worker session command.Revert a = a ≡ revert_reaction h room worker

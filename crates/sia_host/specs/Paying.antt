@@ -125,3 +125,7 @@ works_not made = no_work
 abbrev pub IsHeld : Host → Call → Result Kept ℕ → (Kept → Option ℕ) → (Kept → Reaction → Type 0) → Reaction → Type 0
 IsHeld h call (Err code) fault Follows a = a ≡ refused h call (held_now h call.session) code
 IsHeld h call (Ok c) fault Follows a = MatchOption (fault c) (Follows c a) (λ code. a ≡ refused h call (held_now h call.session) code)
+
+-- the contract about which a request isn't refused, or the code
+abbrev pub unrefused : (Kept → Option ℕ) → Result Kept ℕ → Result Kept ℕ
+unrefused fault opened = opened >>= (λ c. unless (fault c) >>= (λ _. Ok c))

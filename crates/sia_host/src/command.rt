@@ -1,4 +1,6 @@
 //! What a host is asked for.
+use crate::want::Want;
+use sia_records::PreparedWrite;
 use sia_rhp::{FormRequest, LockRequest};
 use sia_types::{Block, List, Signature};
 
@@ -17,6 +19,10 @@ pub enum Command {
     Lock(LockRequest),
     /// To let it hold the contract no more.
     Unlock,
+    /// To tell the bytes of a sector of its contract.
+    Fetch(Want),
+    /// To propose a change of its contract's sectors.
+    Write(PreparedWrite),
     /// To end the session.
     Leave,
     /// To put a block behind the last one.

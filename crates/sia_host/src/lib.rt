@@ -2,9 +2,9 @@
 //!
 //! A host holds contracts with renters, and a session that has a contract's lock may work with it (RHP2; siad's modules/host and
 //! modules/negotiate.go). A command is answered by one reply, one event and at most one record of the journal; what the host knows
-//! is the fold of its records. Events, records, codes and the challenge are this project's own. So far sessions, locks, formations
-//! and the blocks of the chain have calls. What is said of other commands in specs/, to write, to read, to renew and to prove, is
-//! cited by no clause yet.
+//! is the fold of its records. Events, records, codes and the challenge are this project's own. So far sessions, locks, formations,
+//! the blocks of the chain, a request for a sector and a proposed write have calls. What is said of other commands in specs/, to sign a
+//! write, to read, to renew and to prove, is cited by no clause yet.
 //!
 //! ```
 //! let mut core = Core::new(alloc, config, seed)?;
@@ -20,6 +20,7 @@
 //!   holds the contract; a leave frees what its session held, and always has memory. For a formation the host adds coins of its own
 //!   that no other contract's formation spends, and its signatures are ones that the signer may make of the whole transaction.
 //!   After want of memory all is as before.
+//! - [`fill_reply`] is the reply with the bytes of the sector for which its step names a slot, and takes no memory.
 //! - [`Core::events`], [`Core::sums`], [`Core::tip`] and [`Core::records`] are those of the present host.
 //!
 //! # Stands on
@@ -34,14 +35,17 @@ mod call;
 pub mod codes;
 mod command;
 mod config;
+mod diffing;
 mod entering;
 mod event;
 mod feeding;
+mod fetching;
 mod forming;
 mod host_core;
 mod kept;
 mod locking;
 mod log;
+mod paying;
 mod proposals;
 mod refusal;
 mod reply;
@@ -51,12 +55,16 @@ mod signing;
 mod step;
 mod stepping;
 mod waiting;
+mod want;
+mod writing;
 
 pub use call::Call;
 pub use command::Command;
 pub use config::{CoreConfig, CoreFault};
 pub use event::{Event, Kind, Outcome};
+pub use fetching::fill_reply;
 pub use host_core::Core;
 pub use reply::Reply;
 pub use session::{Effect, Session};
 pub use step::{PutJob, Room, Step};
+pub use want::Want;

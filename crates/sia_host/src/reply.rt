@@ -1,6 +1,7 @@
 //! What a host replies.
 use sia_rhp::Answer;
 use sia_rules::BlockFault;
+use sia_types::Blob;
 
 /// What a host replies to a command.
 #[derive(Drop)]
@@ -18,6 +19,8 @@ pub enum Reply {
     Refused(BlockFault),
     /// There is no block to be reverted.
     NoBlock,
+    /// The bytes of a sector: none, until the step's slot is read into them.
+    Sector(Blob),
     /// The answer to a session's request, which is no error.
     Said(Answer),
     /// The command was refused.

@@ -39,6 +39,8 @@ impl Core {
             ),
             Command::Lock(request) => self.lock(alloc, worker, session, &request, check),
             Command::Unlock => self.unlock(alloc, worker, session),
+            Command::Fetch(want) => self.fetch(alloc, worker, session, want),
+            Command::Write(write) => self.write(alloc, room, worker, session, write),
             Command::Leave => Ok(self.leave(alloc, worker, session)),
             Command::Apply(block) => self.apply(alloc, room, worker, block, check),
             Command::Revert => self.revert(alloc, room, worker),
