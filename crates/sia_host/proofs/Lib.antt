@@ -10,3 +10,5 @@ pub mod Formed
 pub mod Walked
 pub mod Steps
 pub mod Writable
+pub mod Apart
+pub mod Sound

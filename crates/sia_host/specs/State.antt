@@ -1,6 +1,6 @@
 -- What a host knows by the records of its journal: its chain, and of each contract the renter's key, the transaction that formed
 -- it, its newest revision with both signatures, and its sectors (RHP2; siad's modules/host).
-use Rattle.std.specs.Prelude.{ℕ, ◌+◌, ◌-◌, ◌^◌, min, Bool, List, [], ◌∷◌, ◌++◌, map, find, ◌==◌, ◌&&◌, not, if◌then◌else◌, Option, Some, None}
+use Rattle.std.specs.Prelude.{◌≡◌, ℕ, ◌+◌, ◌-◌, ◌*◌, ◌^◌, ◌≤◌, min, Bool, false, List, [], ◌∷◌, ◌++◌, map, find, ◌==◌, ◌&&◌, not, if◌then◌else◌, Option, Some, None}
 use Rattle.std.specs.List.{fold, flat_map, list_any}
 use Rattle.std.specs.Option.{option_map_or, is_some}
 use Rattle.std.specs.Str.{bytes_eq}
@@ -47,6 +47,11 @@ is_among id contracts = is_some (contract_among id contracts)
 -- the contracts, where the one with this identifier is changed
 abbrev pub changed_at : List ℕ → (Kept → Kept) → List Kept → List Kept
 changed_at id change contracts = map (λ (c : Kept). if bytes_eq c.id id then change c else c) contracts
+
+-- no two contracts have one identifier
+abbrev pub AreApart : List Kept → Type 0
+AreApart [] = Unit {0}
+AreApart (c ∷ others) = (is_among c.id others ≡ false) × AreApart others
 
 -- a contract that begins
 
@@ -143,6 +148,12 @@ with_record host_key state made = record {
 -- what a host knows by its records
 unfoldable pub host_state : List ℕ → Params → List HostRecord → HostState
 host_state host_key params records = fold (with_record host_key) (first_state params) records
+
+-- what holds of every host, by its sectors' size and its contracts: a sector has 64 bytes times a power of 2, up to 4 MiB, and no two
+-- contracts have one identifier
+pub record IsSound (sector : ℕ) (contracts : List Kept) : Type 0 where
+  pub size : (power : ℕ) × (power ≤ 16) × (sector ≡ 64 * 2 ^ power)
+  pub apart : AreApart contracts
 
 -- the slots that have sectors
 abbrev pub live_slots : HostState → List ℕ

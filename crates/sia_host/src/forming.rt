@@ -1,10 +1,12 @@
 //! Contracts that are formed.
-ghost use Rattle.std.specs.Prelude.{◌≡◌, None, if◌then◌else◌, IfOk, OnErr};
+ghost use Rattle.std.specs.Prelude.{◌≡◌, false, None, if◌then◌else◌, IfOk, OnErr};
 ghost use Rattle.sia_encoding.specs.Firsts.{broken};
+ghost use Rattle.sia_ids.specs.Transactions.{contract_id as id_of};
 ghost use Rattle.sia_records.specs.declared.host_record.HostRecord.TheVariants as records;
 ghost use Rattle.sia_host.specs.declared.codes.TheConstants.{BAD_SIGNATURE as bad_signature, STORE_FULL as store_full};
 ghost use Rattle.sia_host.specs.Answered.{Gives, IsReaction, record_payload};
-ghost use Rattle.sia_host.specs.Forming.{FormsSigned, IsFormed, IsFormSigned, form_kept, form_unless, keeping_fault as keeping_so};
+ghost use Rattle.sia_host.specs.Forming.{FormsSigned, IsFormed, IsFormSigned, form_kept, form_unless, is_formed, keeping_fault as keeping_so};
+ghost use Rattle.sia_host.specs.State.{is_among};
 
 use crate::call::Call;
 use crate::codes::{BAD_CONTRACT, BAD_SIGNATURE, STORE_FULL};
@@ -101,6 +103,7 @@ impl Core {
         check: &C,
         signer: &G,
     ) -> Result<Step, AllocError>
+        requires new { is_formed self.old request.transaction added ≡ false }
         ensures gives { IfOk result (λ step. Gives (FormsSigned C.verdict (G.Makes (G.public_key signer.now)) self.old room.now call request renter added) self.old step self.new) }
         ensures kept { OnErr result (self.new ≡ self.old) }
     {
@@ -126,6 +129,7 @@ impl Core {
         signatures: List<Signature>,
         check: &C,
     ) -> Result<Step, AllocError>
+        requires new { is_among (id_of tx 0) self.old.state.contracts ≡ false }
         ensures gives { IfOk result (λ step. IsReaction self.old (form_kept C.verdict self.old room.now call renter_key tx signatures) step self.new) }
         ensures kept { OnErr result (self.new ≡ self.old) }
     {
@@ -148,7 +152,8 @@ impl Core {
         framed: RecordBuf,
         signatures: List<Signature>,
     ) -> Result<Step, AllocError>
-        requires { framed ≡ record_payload (records.Formed renter_key.now tx) }
+        requires framed { framed ≡ record_payload (records.Formed renter_key.now tx) }
+        requires new { is_among (id_of tx 0) self.old.state.contracts ≡ false }
         ensures gives { IfOk result (λ step. IsReaction self.old (form_unless self.old call renter_key.now tx signatures None) step self.new) }
         ensures kept { OnErr result (self.new ≡ self.old) }
     {

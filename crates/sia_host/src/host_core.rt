@@ -1,5 +1,5 @@
 //! The host, and what it keeps.
-ghost use Rattle.std.specs.Prelude.{◌≡◌, ℕ, [], ◌∷◌, ◌++◌, None, Some, IfOk, OnOk, OnErr, option_copied};
+ghost use Rattle.std.specs.Prelude.{◌≡◌, ℕ, ◌*◌, ◌^◌, ◌≤◌, [], ◌∷◌, ◌++◌, None, Some, IfOk, OnOk, OnErr, option_copied};
 ghost use Rattle.sia_encoding.specs.Answer.{Answers as Tells, itself, unless};
 ghost use Rattle.sia_ledger.specs.Chain.{begun};
 ghost use Rattle.sia_ledger.specs.Genesis.{genesis_refusal};
@@ -28,7 +28,7 @@ use std::alloc::{AllocError, Global};
 use std::marker::Model;
 
 /// A host: its chain, its contracts and its sessions. Contracts see its settings, its margin and its seed, what it knows by its
-/// records, and the events of this run.
+/// records, and the events of this run. No two of its contracts have one identifier.
 #[derive(Drop)]
 pub struct Core {
     pub(crate) settings: Settings,
@@ -41,10 +41,13 @@ pub struct Core {
 
 impl Model for Core {
     ghost use Rattle.sia_host.specs.Answered.{Host};
+    ghost use Rattle.sia_host.specs.State.{IsSound};
 
     ghost Value = { Host };
 
     ghost view = { λ c. record { settings = c.settings; margin = c.margin; seed = c.log.seed; state = record { chain = c.ledger; contracts = c.contracts; count = c.records }; events = c.log.events } };
+
+    ghost invariant = { λ c. IsSound c.settings.sector c.contracts };
 }
 
 impl Core {
@@ -53,6 +56,7 @@ impl Core {
     /// # Errors
     /// [`CoreFault::Genesis`] exactly where the chain's genesis is refused, or want of memory.
     pub fn new(alloc: Global, config: CoreConfig, seed: [u8; 32]) -> Result<Core, CoreFault>
+        requires size { (power : ℕ) × (power ≤ 16) × (config.settings.sector ≡ 64 * 2 ^ power) }
         ensures judged { Tells (λ _. tt) core_told result (unless (genesis_refusal config.params)) }
         ensures begun { IfOk result (λ core. core ≡ record { settings = config.settings; margin = config.margin; seed = seed; state = first_state config.params; events = [] }) }
     {
