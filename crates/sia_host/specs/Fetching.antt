@@ -39,6 +39,6 @@ abbrev pub fetch_reaction : Host → ℕ → ℕ → Want → Reaction
 fetch_reaction h worker session want = fetch_given h (record { worker = worker; session = session; kind = kind.Fetch }) (slot_wanted h session want)
 
 -- a reply with the bytes that were fetched for it
-abbrev pub filled : Reply → List ℕ → Reply
-filled (reply.Sector none) bytes = reply.Sector bytes
-filled other bytes = other
+abbrev pub filled_reply : Reply → List ℕ → Reply
+filled_reply (reply.Sector none) bytes = reply.Sector bytes
+filled_reply other bytes = other

@@ -4,7 +4,7 @@ ghost use Rattle.sia_encoding.specs.Answer.{Answers as Tells, itself};
 ghost use Rattle.sia_host.specs.declared.event.Outcome.TheVariants as outcome;
 ghost use Rattle.sia_host.specs.declared.reply.Reply.TheVariants as reply;
 ghost use Rattle.sia_host.specs.Answered.{IsReaction, fetching, worked};
-ghost use Rattle.sia_host.specs.Fetching.{fetch_reaction, fetched_by_place, fetched_by_root, filled, slot_wanted as slot_wanted_so};
+ghost use Rattle.sia_host.specs.Fetching.{fetch_reaction, fetched_by_place, fetched_by_root, filled_reply, slot_wanted as slot_wanted_so};
 ghost use Rattle.sia_host.specs.Refusals.{code_told};
 ghost use Rattle.sia_host.specs.Writing.{slot_with as slot_with_so};
 
@@ -113,7 +113,7 @@ fn slot_with(contract: &KeptContract, root: &Hash) -> Option<u64>
 
 /// A reply with the bytes of the slot that its step has in `fetch`. It takes no memory.
 pub fn fill_reply(reply: Reply, sector: Vec<u8>) -> Reply
-    ensures { result ≡ filled reply sector.items }
+    ensures { result ≡ filled_reply reply sector.items }
 {
     match reply {
         Reply::Sector(_) => Reply::Sector(Blob::from_vec(sector)),
