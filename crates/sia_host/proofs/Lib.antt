@@ -12,3 +12,5 @@ pub mod Steps
 pub mod Writable
 pub mod Apart
 pub mod Sound
+pub mod Placed
+pub mod Askings

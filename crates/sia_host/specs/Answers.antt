@@ -9,6 +9,7 @@ use Rattle.sia_host.specs.Fetching.{fetch_reaction}
 use Rattle.sia_host.specs.Feeding.{apply_reaction, revert_reaction}
 use Rattle.sia_host.specs.Forming.{IsFormed, IsFormSigned}
 use Rattle.sia_host.specs.Locking.{lock_reaction, unlock_reaction}
+use Rattle.sia_host.specs.Outbox.{due_reaction, stale_reaction}
 use Rattle.sia_host.specs.Writing.{IsWritten}
 
 -- A command of a worker and a session is answered so, where `accepts` judges key, hash and signature, and `Signs` says which
@@ -25,6 +26,8 @@ IsAnswer accepts Signs h room worker session (command.Write write) a = IsWritten
 IsAnswer accepts Signs h room worker session command.Leave a = a ≡ leave_reaction h worker session
 IsAnswer accepts Signs h room worker session (command.Apply block) a = a ≡ apply_reaction accepts h room worker block
 IsAnswer accepts Signs h room worker session command.Revert a = a ≡ revert_reaction h room worker
+IsAnswer accepts Signs h room worker session (command.Stale id first) a = a ≡ stale_reaction h worker id first
+IsAnswer accepts Signs h room worker session (command.Due id first) a = a ≡ due_reaction h worker id first
 
 -- whether a command ends a session
 abbrev pub is_leave : Command → Bool

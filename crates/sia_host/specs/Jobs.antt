@@ -14,6 +14,7 @@ use Rattle.sia_types.specs.declared.transaction.Transaction.{Transaction}
 use Rattle.sia_ledger.specs.Holdings.{id_at, terms_of}
 use Rattle.sia_ledger.specs.Order.{ascending_by}
 use Rattle.sia_records.specs.Stored.{no_sector}
+use Rattle.sia_host.specs.OutJobs.{proof_alone}
 use Rattle.sia_host.specs.Signing.{whole_signature}
 use Rattle.sia_host.specs.State.{Kept}
 use Rattle.sia_host.specs.Paying.{revision_alone}
@@ -92,18 +93,7 @@ asked_slot h c terms = (slice_index_or c.sectors (asked_place h c terms) no_sect
 
 -- a transaction that has a storage proof alone, where `bytes` gives the sector of a slot
 unfoldable pub due_job_by : (ℕ → List ℕ) → Host → Kept → Terms → Transaction
-due_job_by bytes h c terms = record {
-  coin_inputs = [];
-  coin_outputs = [];
-  contracts = [];
-  revisions = [];
-  proofs = sector_proof (bytes (asked_slot h c terms)) (asked_place h c terms) (roots_of c) (trigger_of h terms) c.id ∷ [];
-  fund_inputs = [];
-  fund_outputs = [];
-  fees = [];
-  notes = [];
-  signatures = [];
-}
+due_job_by bytes h c terms = proof_alone (sector_proof (bytes (asked_slot h c terms)) (asked_place h c terms) (roots_of c) (trigger_of h terms) c.id)
 
 -- the job of a due contract
 abbrev pub due_job : (ℕ → List ℕ) → Host → Kept → Option Transaction

@@ -19,3 +19,5 @@ pub mod Renewing
 pub mod Jobs
 pub mod Replaying
 pub mod Least
+pub mod OutJobs
+pub mod Outbox

@@ -1,5 +1,6 @@
 //! What a host is asked for.
 use crate::want::Want;
+use sia_blake::Hash;
 use sia_records::PreparedWrite;
 use sia_rhp::{FormRequest, LockRequest};
 use sia_types::{Block, List, Signature};
@@ -29,4 +30,8 @@ pub enum Command {
     Apply(Block),
     /// To drop the last block.
     Revert,
+    /// To hand out the stale contract with the least identifier above this one, or with the least of all.
+    Stale(Hash, bool),
+    /// To hand out the due contract with the least identifier above this one, or with the least of all.
+    Due(Hash, bool),
 }

@@ -3,8 +3,8 @@
 //! A host holds contracts with renters, and a session that has a contract's lock may work with it (RHP2; siad's modules/host and
 //! modules/negotiate.go). A command is answered by one reply, one event and at most one record of the journal; what the host knows
 //! is the fold of its records. Events, records, codes and the challenge are this project's own. So far sessions, locks, formations,
-//! the blocks of the chain, a request for a sector and a proposed write have calls. What is said of other commands in specs/, to sign a
-//! write, to read, to renew and to prove, is cited by no clause yet.
+//! the blocks of the chain, a request for a sector, a proposed write, and what is to be mined for contracts have calls. What is said
+//! of other commands in specs/, to sign a write, to read and to renew, is cited by no clause yet.
 //!
 //! ```
 //! let mut core = Core::new(alloc, config, seed)?;
@@ -20,6 +20,9 @@
 //!   holds the contract; a leave frees what its session held, and always has memory. For a formation the host adds coins of its own
 //!   that no other contract's formation spends, and its signatures are ones that the signer may make of the whole transaction.
 //!   After want of memory all is as before.
+//! - For the next stale contract its newest revision is handed out, or the renewal that this stands in; for the next due one, if a
+//!   storage proof can be asked for, a job that lacks the bytes of a sector. [`finish_job`] is exactly the transaction that a job
+//!   stands for.
 //! - [`fill_reply`] is the reply with the bytes of the sector for which its step names a slot, and takes no memory.
 //! - [`Core::events`], [`Core::sums`], [`Core::tip`] and [`Core::records`] are those of the present host.
 //!
@@ -27,8 +30,9 @@
 //!
 //! sia_ledger for the chain, sia_records and sia_journal for records and their frames, sia_rhp for requests and answers, sia_forms for
 //! formations and the parties' conditions, sia_ids, sia_blake, sia_sign and sia_edge for identifiers, challenges and signatures,
-//! sia_roottree for the roots of a contract's sectors, sia_types, sia_rules and sia_encoding for what all of these say. Definitions
-//! of the commands to come cite sia_price, sia_prover, sia_diff, sia_range and sia_merkle besides.
+//! sia_roottree and sia_diff for the roots of a contract's sectors, sia_prover and sia_merkle for storage proofs, sia_price for
+//! payments, sia_types, sia_rules and sia_encoding for what all of these say. Definitions of the commands to come cite sia_range
+//! besides.
 #![tactic(auto)]
 
 mod call;
@@ -43,8 +47,11 @@ mod fetching;
 mod forming;
 mod host_core;
 mod kept;
+pub mod laws;
 mod locking;
 mod log;
+mod out_job;
+mod outbox;
 mod paying;
 mod proposals;
 mod refusal;
@@ -64,6 +71,7 @@ pub use config::{CoreConfig, CoreFault};
 pub use event::{Event, Kind, Outcome};
 pub use fetching::fill_reply;
 pub use host_core::Core;
+pub use out_job::{AskedProof, OutJob, finish_job};
 pub use reply::Reply;
 pub use session::{Effect, Session};
 pub use step::{PutJob, Room, Step};

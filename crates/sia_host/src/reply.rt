@@ -1,4 +1,5 @@
 //! What a host replies.
+use crate::out_job::OutJob;
 use sia_rhp::Answer;
 use sia_rules::BlockFault;
 use sia_types::Blob;
@@ -21,6 +22,8 @@ pub enum Reply {
     NoBlock,
     /// The bytes of a sector: none, until the step's slot is read into them.
     Sector(Blob),
+    /// The job of the next contract for which something is to be mined, if there is one.
+    Next(Option<OutJob>),
     /// The answer to a session's request, which is no error.
     Said(Answer),
     /// The command was refused.

@@ -65,8 +65,8 @@ pub(crate) fn whole_hash(
     Ok(hash)
 }
 
-// A signature of a whole transaction. It takes no memory.
-fn whole_signature(alloc: Global, parent: &Hash, index: u64, bytes: Blob) -> Signature
+/// A signature of a whole transaction. It takes no memory.
+pub(crate) fn whole_signature(alloc: Global, parent: &Hash, index: u64, bytes: Blob) -> Signature
     ensures { result ≡ whole_signature_so parent.now index bytes }
 {
     Signature {

@@ -44,6 +44,8 @@ impl Core {
             Command::Leave => Ok(self.leave(alloc, worker, session)),
             Command::Apply(block) => self.apply(alloc, room, worker, block, check),
             Command::Revert => self.revert(alloc, room, worker),
+            Command::Stale(id, first) => self.next_stale(alloc, worker, &id, first),
+            Command::Due(id, first) => self.next_due(alloc, worker, &id, first),
         }
     }
 }
