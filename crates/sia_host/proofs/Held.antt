@@ -36,3 +36,9 @@ pub refuses_so : {E : Type 0} (h : Host) (call : Call) (opened : Result Kept ℕ
     → unrefused fault opened ≡ Err code → IfOk result (λ step. IsReaction h (refused h call (held_now h call.session) code) step after) → IfOk result (λ step. Gives (IsHeld h call opened fault Follows) h step after)
 refuses_so h call opened fault Follows code (Ok step) after is given = (refused h call (held_now h call.session) code, refuses h call opened fault Follows code is, given)
 refuses_so h call opened fault Follows code (Err e) after is given = tt
+
+-- a step by what follows where a request isn't refused
+pub follows_given : {E : Type 0} (h : Host) (call : Call) (opened : Result Kept ℕ) (fault : Kept → Option ℕ) (Follows : Kept → Reaction → Type 0) (contract : Kept) (result : Result Step E) (after : Host)
+    → unrefused fault opened ≡ Ok contract → IfOk result (λ step. Gives (Follows contract) h step after) → IfOk result (λ step. Gives (IsHeld h call opened fault Follows) h step after)
+follows_given h call opened fault Follows contract (Ok step) after is gives = (gives.0, follows h call opened fault Follows contract gives.0 is gives.1, gives.2)
+follows_given h call opened fault Follows contract (Err e) after is gives = tt

@@ -14,3 +14,6 @@ pub mod Apart
 pub mod Sound
 pub mod Placed
 pub mod Askings
+pub mod Revised
+pub mod Readable
+pub mod RootsTold

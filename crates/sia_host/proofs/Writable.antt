@@ -49,7 +49,7 @@ pub sectors_counted : (write : Prepared) → count_by puts_sector write.request.
 unfolding sectors_of
 sectors_counted write = new_counted write.request.actions write.fetched
 
-same_contract : (f : Option ℕ) (c contract : Kept) → (unless f >>= (λ _. Ok c)) ≡ Ok contract → c ≡ contract
+pub same_contract : (f : Option ℕ) (c contract : Kept) → (unless f >>= (λ _. Ok c)) ≡ Ok contract → c ≡ contract
 same_contract None c contract is = (cc)
 same_contract (Some code) c contract is = (cc)
 

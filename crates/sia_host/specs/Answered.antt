@@ -1,7 +1,7 @@
 -- What a host is, and what it answers to a command: a reply, an event and at most one record (RHP2; the events and records are
 -- this project's own).
 use Rattle.std.specs.Prelude.{◌≡◌, ℕ, ◌+◌, ◌≤◌, List, [], ◌∷◌, ◌++◌, length, nat_lt, Bool, Option, Some, None, IsSome, Result, Ok, Err, vec_capacity}
-use Rattle.std.specs.List.{count_by, filter}
+use Rattle.std.specs.List.{count_by}
 use Rattle.std.specs.Option.{option_map, option_map_or, option_to_list}
 use Rattle.sia_encoding.specs.Codec.{Codec}
 use Rattle.sia_types.specs.declared.settings.Settings.{Settings}
@@ -21,7 +21,7 @@ use Rattle.sia_host.specs.declared.step.PutJob.{PutJob}
 use Rattle.sia_host.specs.declared.step.Room.{Room}
 use Rattle.sia_host.specs.declared.step.Step.{Step}
 use Rattle.sia_host.specs.Sessions.{begins, challenge_at, holder_among, live_sessions, with_number}
-use Rattle.sia_host.specs.State.{Kept, HostState, with_record, contract_among, counted_more, is_free_slot, live_slots}
+use Rattle.sia_host.specs.State.{Kept, HostState, with_record, contract_among, counted_more}
 
 -- a host: its settings, whose height isn't looked at, its margin and its seed; what it knows by its records; and the events of
 -- this run
@@ -106,10 +106,6 @@ no_work = record { puts = []; fetch = None; freed = [] }
 -- a sector is to be fetched for the reply
 abbrev pub fetching : ℕ → Work
 fetching slot = record { puts = []; fetch = Some slot; freed = [] }
-
--- the slots that a record frees: those with sectors before it that have none after it, in their order before it
-abbrev pub freed_by : Host → HostRecord → List ℕ
-freed_by h made = filter (is_free_slot (live_slots (with_record h.settings.host_key h.state made))) (live_slots h.state)
 
 -- what a command comes to; an event is noted of each but of the leave of a session that isn't live
 pub record Reaction : Type 0 where

@@ -10,6 +10,7 @@ use Rattle.sia_host.specs.Feeding.{apply_reaction, revert_reaction}
 use Rattle.sia_host.specs.Forming.{IsFormed, IsFormSigned}
 use Rattle.sia_host.specs.Locking.{lock_reaction, unlock_reaction}
 use Rattle.sia_host.specs.Outbox.{due_reaction, stale_reaction}
+use Rattle.sia_host.specs.Reading.{AreRoots}
 use Rattle.sia_host.specs.Writing.{IsWritten}
 
 -- A command of a worker and a session is answered so, where `accepts` judges key, hash and signature, and `Signs` says which
@@ -23,6 +24,7 @@ IsAnswer accepts Signs h room worker session (command.Lock request) a = a ≡ lo
 IsAnswer accepts Signs h room worker session command.Unlock a = a ≡ unlock_reaction h worker session
 IsAnswer accepts Signs h room worker session (command.Fetch want) a = a ≡ fetch_reaction h worker session want
 IsAnswer accepts Signs h room worker session (command.Write write) a = IsWritten h room worker session write a
+IsAnswer accepts Signs h room worker session (command.Roots request) a = AreRoots accepts Signs h room worker session request a
 IsAnswer accepts Signs h room worker session command.Leave a = a ≡ leave_reaction h worker session
 IsAnswer accepts Signs h room worker session (command.Apply block) a = a ≡ apply_reaction accepts h room worker block
 IsAnswer accepts Signs h room worker session command.Revert a = a ≡ revert_reaction h room worker

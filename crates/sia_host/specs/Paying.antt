@@ -92,33 +92,29 @@ revision_alone revision = record {
 abbrev pub revision_hash : Revision → ℕ → List ℕ
 revision_hash revision index = whole_hash (revision_alone revision) revision.parent index
 
--- the renter's signature of a revision is accepted
-abbrev pub signs_revision : (List ℕ → List ℕ → List ℕ → Bool) → Kept → Revision → List ℕ → Bool
-signs_revision accepts c revision signature = accepts c.renter_key (revision_hash revision 0) signature
+-- the renter's signature of a revision is accepted, by the renter's key
+abbrev pub signs_revision : (List ℕ → List ℕ → List ℕ → Bool) → List ℕ → Revision → List ℕ → Bool
+signs_revision accepts renter_key revision signature = accepts renter_key (revision_hash revision 0) signature
 
 -- why a signed revision isn't kept, the first of these: the journal has no room for its record; the renter's signature isn't
 -- accepted
-abbrev pub revising_fault : (List ℕ → List ℕ → List ℕ → Bool) → Room → Kept → Revision → List ℕ → HostRecord → Option ℕ
-revising_fault accepts room c revision renter made =
+abbrev pub revising_fault : (List ℕ → List ℕ → List ℕ → Bool) → Room → List ℕ → Revision → List ℕ → HostRecord → Option ℕ
+revising_fault accepts room renter_key revision renter made =
     broken (lacks_room room made) STORE_FULL
-    or_else broken (not (signs_revision accepts c revision renter)) BAD_SIGNATURE
+    or_else broken (not (signs_revision accepts renter_key revision renter)) BAD_SIGNATURE
 
--- what follows from that
-abbrev pub revised_unless : Host → Call → Kept → Reply → HostRecord → Work → Option ℕ → Reaction
-revised_unless h call c said made work (Some code) = refused h call (Some c.id) code
-revised_unless h call c said made work None = worked h call (Some c.id) outcome.Fine said (Some made) work
+-- what follows from that, for the contract with this identifier
+abbrev pub revised_unless : Host → Call → List ℕ → Reply → HostRecord → Work → Option ℕ → Reaction
+revised_unless h call id said made work (Some code) = refused h call (Some id) code
+revised_unless h call id said made work None = worked h call (Some id) outcome.Fine said (Some made) work
 
--- A revision with its changes is answered so: the host signs it, `said` is what it replies with its signature, and `works` what its
--- record leaves to be done.
-abbrev pub IsRevised : (List ℕ → List ℕ → List ℕ → Bool) → (List ℕ → List ℕ → Type 0) → Host → Room → Call → Kept → Revision → List ℕ → List Change → (List ℕ → Reply) → (HostRecord → Work) → Reaction → Type 0
-IsRevised accepts Signs h room call c revision renter changes said works a =
+-- A revision with its changes is answered so, for the contract with this identifier and this renter's key: the host signs it, `said`
+-- is what it replies with its signature, and `work` what its record leaves to be done.
+abbrev pub IsRevised : (List ℕ → List ℕ → List ℕ → Bool) → (List ℕ → List ℕ → Type 0) → Host → Room → Call → List ℕ → List ℕ → Revision → List ℕ → List Change → (List ℕ → Reply) → Work → Reaction → Type 0
+IsRevised accepts Signs h room call id renter_key revision renter changes said work a =
     (host : List ℕ) × Signs (revision_hash revision 1) host
     × (let made = records.Revised revision renter host changes in
-    a ≡ revised_unless h call c (said host) made (works made) (revising_fault accepts room c revision renter made))
-
--- a revision that changes no sector leaves nothing to be done
-abbrev pub works_not : HostRecord → Work
-works_not made = no_work
+    a ≡ revised_unless h call id (said host) made work (revising_fault accepts room renter_key revision renter made))
 
 -- A request about the held contract is answered so: refused with the contract's judgement, or with the request's own; else by what
 -- follows. Its event names the contract that the session holds.

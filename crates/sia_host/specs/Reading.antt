@@ -20,9 +20,9 @@ use Rattle.sia_host.specs.declared.reply.Reply.{Reply}
 use Rattle.sia_host.specs.declared.reply.Reply.TheVariants as reply
 use Rattle.sia_host.specs.declared.step.Room.{Room}
 use Rattle.sia_host.specs.State.{Kept}
-use Rattle.sia_host.specs.Paying.{IsHeld, IsRevised, Payment, open_now, paid_revision, unpaid, works_not}
+use Rattle.sia_host.specs.Paying.{IsHeld, IsRevised, Payment, open_now, paid_revision, unpaid}
 use Rattle.sia_host.specs.Writing.{roots_of, slot_with}
-use Rattle.sia_host.specs.Answered.{Reaction, Host}
+use Rattle.sia_host.specs.Answered.{Reaction, Host, no_work}
 
 -- parts of sectors
 
@@ -55,7 +55,7 @@ abbrev pub IsRead : (List ℕ → List ℕ → List ℕ → Bool) → (List ℕ 
 IsRead accepts Signs h room worker session read a =
     let call : Call = record { worker = worker; session = session; kind = kind.Read } in
     IsHeld h call (open_now h session) (read_fault h read)
-    (λ c a. IsRevised accepts Signs h room call c (paid_revision c (read_payment read.request) c.newest.size c.newest.root) read.request.signature [] (read_said read) works_not a) a
+    (λ c a. IsRevised accepts Signs h room call c.id c.renter_key (paid_revision c (read_payment read.request) c.newest.size c.newest.root) read.request.signature [] (read_said read) no_work a) a
 
 -- roots of sectors
 
@@ -90,4 +90,4 @@ abbrev pub AreRoots : (List ℕ → List ℕ → List ℕ → Bool) → (List �
 AreRoots accepts Signs h room worker session request a =
     let call : Call = record { worker = worker; session = session; kind = kind.Roots } in
     IsHeld h call (open_now h session) (roots_fault h request)
-    (λ c a. IsRevised accepts Signs h room call c (paid_revision c (roots_payment request) c.newest.size c.newest.root) request.signature [] (roots_said c request) works_not a) a
+    (λ c a. IsRevised accepts Signs h room call c.id c.renter_key (paid_revision c (roots_payment request) c.newest.size c.newest.root) request.signature [] (roots_said c request) no_work a) a

@@ -121,7 +121,7 @@ revises_contract accepts h revision renter done c =
     && has_same_counts c.newest p.valid p.missed && has_same_sums c.newest p.valid p.missed
     && changes_fit h c done
     && is_spelled_as revision_codec revision (expected h c p done)
-    && signs_revision accepts c revision renter
+    && signs_revision accepts c.renter_key revision renter
 
 -- A record follows on what the host knows.
 unfoldable pub replays : (List ℕ → List ℕ → List ℕ → Bool) → Host → HostRecord → Bool

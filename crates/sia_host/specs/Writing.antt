@@ -1,6 +1,6 @@
 -- What a host answers to one that asks for a sector, proposes a change of its contract's sectors, or signs it (RHP2's write
 -- actions; siad's Merkle diff proofs).
-use Rattle.std.specs.Prelude.{◌≡◌, ℕ, ◌*◌, Bool, true, false, List, [], ◌∷◌, ◌++◌, length, map, find, nat_lt, not, ◌&&◌, Option, Some, None, Result, Ok, Err, slice_get}
+use Rattle.std.specs.Prelude.{◌≡◌, ℕ, ◌*◌, ◌-◌, Bool, true, false, List, [], ◌∷◌, ◌++◌, length, map, drop, find, nat_lt, not, ◌&&◌, Option, Some, None, Result, Ok, Err, slice_get, slice_index_or}
 use Rattle.std.specs.List.{count_by, sum_by}
 use Rattle.std.specs.Option.{option_map}
 use Rattle.std.specs.Str.{bytes_eq}
@@ -17,8 +17,8 @@ use Rattle.sia_rhp.specs.declared.answer.Answer.TheVariants as answer
 use Rattle.sia_rhp.specs.declared.answer_bodies.WriteAnswer.{WriteAnswer}
 use Rattle.sia_rhp.specs.declared.request_bodies.WriteRequest.{WriteRequest}
 use Rattle.sia_records.specs.declared.change.Change.{Change}
-use Rattle.sia_records.specs.declared.host_record.HostRecord.{HostRecord}
-use Rattle.sia_records.specs.Stored.{Stored, changes_of}
+use Rattle.sia_records.specs.declared.change.Change.TheVariants as changes
+use Rattle.sia_records.specs.Stored.{Stored, changes_of, no_sector, stored_after_one}
 use Rattle.sia_records.specs.Writes.{Prepared, is_prepared, is_update, sectors_of, steps_of, updates_of}
 use Rattle.sia_host.specs.declared.call.Call.{Call}
 use Rattle.sia_host.specs.declared.codes.TheConstants.{BAD_ACTION, STORE_FULL}
@@ -30,7 +30,7 @@ use Rattle.sia_host.specs.declared.step.PutJob.{PutJob}
 use Rattle.sia_host.specs.declared.step.Room.{Room}
 use Rattle.sia_host.specs.State.{Kept}
 use Rattle.sia_host.specs.Paying.{IsHeld, IsRevised, Payment, open_now, paid_revision, unpaid}
-use Rattle.sia_host.specs.Answered.{Reaction, Host, Work, answered, freed_by}
+use Rattle.sia_host.specs.Answered.{Reaction, Host, Work, answered}
 
 -- a contract's sectors
 
@@ -124,10 +124,21 @@ abbrev pub put_jobs : List ℕ → List (List ℕ) → List PutJob
 put_jobs (slot ∷ slots) (sector ∷ sectors) = record { slot = slot; bytes = sector } ∷ put_jobs slots sectors
 put_jobs slots sectors = []
 
+-- the slots whose sectors one change drops
+abbrev pub dropped_by : List Stored → Change → List ℕ
+dropped_by sectors (changes.Trim fewer) = map sector_slot (drop (length sectors - fewer) sectors)
+dropped_by sectors (changes.Set place root slot) = (slice_index_or sectors place no_sector).slot ∷ []
+dropped_by sectors other = []
+
+-- the slots whose sectors changes drop, in the order in which they are dropped
+abbrev pub dropped : List Stored → List Change → List ℕ
+dropped sectors [] = []
+dropped sectors (one ∷ others) = dropped_by sectors one ++ dropped (stored_after_one sectors one) others
+
 -- what is left to be done by the record of a write: each new sector is put into the next of the least free slots; the slots whose
--- sectors are dropped are free
-abbrev pub write_work : Host → Room → Prepared → HostRecord → Work
-write_work h room write made = record { puts = put_jobs room.free (sectors_of write); fetch = None; freed = freed_by h made }
+-- sectors are dropped, and those whose sectors it puts and drops again, are free
+abbrev pub write_work : Room → Prepared → Kept → Work
+write_work room write c = record { puts = put_jobs room.free (sectors_of write); fetch = None; freed = dropped c.sectors (written_changes room write) }
 
 -- the reply to a signed write: the host's signature
 abbrev pub write_signed : List ℕ → Reply
@@ -138,4 +149,4 @@ abbrev pub IsWriteSigned : (List ℕ → List ℕ → List ℕ → Bool) → (Li
 IsWriteSigned accepts Signs h room worker session write renter a =
     let call : Call = record { worker = worker; session = session; kind = kind.WriteSign } in
     IsHeld h call (open_now h session) (write_fault h room write)
-    (λ c a. IsRevised accepts Signs h room call c (written_revision h write c) renter (written_changes room write) write_signed (write_work h room write) a) a
+    (λ c a. IsRevised accepts Signs h room call c.id c.renter_key (written_revision h write c) renter (written_changes room write) write_signed (write_work room write c) a) a

@@ -2,7 +2,7 @@
 use crate::want::Want;
 use sia_blake::Hash;
 use sia_records::PreparedWrite;
-use sia_rhp::{FormRequest, LockRequest};
+use sia_rhp::{FormRequest, LockRequest, PaidRoots};
 use sia_types::{Block, List, Signature};
 
 /// What a host is asked for: by sessions, and by the feed of blocks.
@@ -24,6 +24,8 @@ pub enum Command {
     Fetch(Want),
     /// To propose a change of its contract's sectors.
     Write(PreparedWrite),
+    /// To tell roots of its contract's sectors.
+    Roots(PaidRoots),
     /// To end the session.
     Leave,
     /// To put a block behind the last one.

@@ -3,8 +3,9 @@
 //! A host holds contracts with renters, and a session that has a contract's lock may work with it (RHP2; siad's modules/host and
 //! modules/negotiate.go). A command is answered by one reply, one event and at most one record of the journal; what the host knows
 //! is the fold of its records. Events, records, codes and the challenge are this project's own. So far sessions, locks, formations,
-//! the blocks of the chain, a request for a sector, a proposed write, and what is to be mined for contracts have calls. What is said
-//! of other commands in specs/, to sign a write, to read and to renew, is cited by no clause yet.
+//! the blocks of the chain, a request for a sector, a proposed write, a request for roots of sectors, and what is to be mined for
+//! contracts have calls. What is said of other commands in specs/, to sign a write, to read parts of sectors and to renew, is cited by
+//! no clause yet.
 //!
 //! ```
 //! let mut core = Core::new(alloc, config, seed)?;
@@ -19,7 +20,8 @@
 //!   of its events and of the journal's room, and the host is then what these make of it. A lock is acquired only where no session
 //!   holds the contract; a leave frees what its session held, and always has memory. For a formation the host adds coins of its own
 //!   that no other contract's formation spends, and its signatures are ones that the signer may make of the whole transaction.
-//!   After want of memory all is as before.
+//!   Roots of sectors are told with their range proof over all of them, for a revision that pays and has the renter's signature: the
+//!   host signs it, and it is the contract's newest one with both signatures. After want of memory all is as before.
 //! - For the next stale contract its newest revision is handed out, or the renewal that this stands in; for the next due one, if a
 //!   storage proof can be asked for, a job that lacks the bytes of a sector. [`finish_job`] is exactly the transaction that a job
 //!   stands for.
@@ -30,9 +32,8 @@
 //!
 //! sia_ledger for the chain, sia_records and sia_journal for records and their frames, sia_rhp for requests and answers, sia_forms for
 //! formations and the parties' conditions, sia_ids, sia_blake, sia_sign and sia_edge for identifiers, challenges and signatures,
-//! sia_roottree and sia_diff for the roots of a contract's sectors, sia_prover and sia_merkle for storage proofs, sia_price for
-//! payments, sia_types, sia_rules and sia_encoding for what all of these say. Definitions of the commands to come cite sia_range
-//! besides.
+//! sia_roottree, sia_diff and sia_range for the roots of a contract's sectors and proofs over them, sia_prover and sia_merkle for
+//! storage proofs, sia_price for what is paid, sia_types, sia_rules and sia_encoding for what all of these say.
 #![tactic(auto)]
 
 mod call;
@@ -54,8 +55,10 @@ mod out_job;
 mod outbox;
 mod paying;
 mod proposals;
+mod reading;
 mod refusal;
 mod reply;
+mod revising;
 mod sectors;
 mod session;
 mod signing;

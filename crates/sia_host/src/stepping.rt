@@ -41,6 +41,9 @@ impl Core {
             Command::Unlock => self.unlock(alloc, worker, session),
             Command::Fetch(want) => self.fetch(alloc, worker, session, want),
             Command::Write(write) => self.write(alloc, room, worker, session, write),
+            Command::Roots(request) => {
+                self.roots(alloc, room, worker, session, request, check, signer)
+            }
             Command::Leave => Ok(self.leave(alloc, worker, session)),
             Command::Apply(block) => self.apply(alloc, room, worker, block, check),
             Command::Revert => self.revert(alloc, room, worker),

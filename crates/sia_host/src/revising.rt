@@ -1,0 +1,263 @@
+//! Revisions that pay: both parties sign them, and they are recorded.
+ghost use Rattle.std.specs.Prelude.{◌≡◌, ◌<◌, [], ◌∷◌, not, length, slice_set, slice_index_or, Some, IfOk, OnOk, OnErr};
+ghost use Rattle.std.specs.Str.{bytes_eq};
+ghost use Rattle.std.specs.List.{position};
+ghost use Rattle.sia_encoding.specs.Firsts.{broken, ◌or_else◌};
+ghost use Rattle.sia_records.specs.declared.host_record.HostRecord.TheVariants as records;
+ghost use Rattle.sia_host.specs.declared.codes.TheConstants.{BAD_SIGNATURE as bad_signature, STORE_FULL as store_full};
+ghost use Rattle.sia_host.specs.declared.event.Outcome.TheVariants as outcome;
+ghost use Rattle.sia_host.specs.Answered.{IsReaction, no_work, record_payload, worked};
+ghost use Rattle.sia_host.specs.Paying.{paid_revision as paid_revision_so, revised_unless, revising_fault as revising_fault_so, revision_alone as revision_alone_so, revision_hash as revision_hash_so, signs_revision as signs_revision_so};
+ghost use Rattle.sia_host.specs.State.{AreApart, Kept, changed_at, revised_contract};
+
+use crate::call::Call;
+use crate::codes::{BAD_SIGNATURE, STORE_FULL};
+use crate::event::Outcome;
+use crate::feeding::{frame, lacks_room};
+use crate::host_core::Core;
+use crate::kept::KeptContract;
+use crate::reply::Reply;
+use crate::signing::whole_hash;
+use crate::step::{Room, Step};
+use sia_blake::Hash;
+use sia_edge::{SigCheck, Signer};
+use sia_journal::RecordBuf;
+use sia_price::with_terms;
+use sia_records::HostRecord;
+use sia_types::{Blob, Item, List, Revision, Transaction};
+use std::alloc::{AllocError, Global};
+use std::mem::replace;
+
+/// A contract that is to be revised, by its identifier and its renter's key.
+#[derive(Clone, Copy)]
+pub(crate) struct Party {
+    /// Its identifier.
+    pub id: Hash,
+    /// The public key that the renter signs with.
+    pub renter_key: [u8; 32],
+}
+
+/// A revision with the signatures of both parties.
+#[derive(Drop)]
+pub(crate) struct SignedRevision {
+    /// The revision.
+    pub revision: Revision,
+    /// The renter's signature of it.
+    pub renter: Blob,
+    /// The host's signature of it.
+    pub host: Blob,
+}
+
+impl Core {
+    /// Answers a request by a revision that changes no sector, or by why the revision isn't kept.
+    pub(crate) fn revise<C: SigCheck>(
+        &mut self,
+        alloc: Global,
+        room: &Room,
+        call: Call,
+        party: Party,
+        signed: SignedRevision,
+        reply: Reply,
+        check: &C,
+    ) -> Result<Step, AllocError>
+        ensures gives { IfOk result (λ step. IsReaction self.old (revised_unless self.old call party.id reply (records.Revised signed.revision signed.renter signed.host []) no_work (revising_fault_so C.verdict room.now party.renter_key signed.revision signed.renter (records.Revised signed.revision signed.renter signed.host []))) step self.new) }
+        ensures kept { OnErr result (self.new ≡ self.old) }
+    {
+        let accepted = signs_revision(alloc, &party.renter_key, &signed, check)?;
+        let framed = frame_revised(alloc, &signed)?;
+        match revising_fault(lacks_room(room, &framed), accepted) {
+            Some(code) => self.refuse(alloc, call, Some(party.id), code),
+            None => self.record_revised(alloc, call, party.id, signed, framed, reply),
+        }
+    }
+
+    // A revision is recorded.
+    #[tactic(auto, unfolding(crate::specs::State::with_record))]
+    fn record_revised(
+        &mut self,
+        alloc: Global,
+        call: Call,
+        id: Hash,
+        signed: SignedRevision,
+        framed: RecordBuf,
+        reply: Reply,
+    ) -> Result<Step, AllocError>
+        requires { framed ≡ record_payload (records.Revised signed.revision signed.renter signed.host []) }
+        ensures gives { IfOk result (λ step. IsReaction self.old (worked self.old call (Some id) outcome.Fine reply (Some (records.Revised signed.revision signed.renter signed.host [])) no_work) step self.new) }
+        ensures kept { OnErr result (self.new ≡ self.old) }
+    {
+        self.log.reserve()?;
+        revise_kept(alloc, &mut self.contracts, signed)?;
+        self.records = self.records.saturating_add(1);
+        let event = self.event(call, Some(id), Outcome::Fine);
+        self.log.note(event);
+        Ok(Step::plain(alloc, reply, Some(framed)))
+    }
+}
+
+/// The revision of a contract that pays, over so many bytes with this root. The error is want of memory.
+pub(crate) fn paid_revision(
+    alloc: Global,
+    contract: &KeptContract,
+    number: u64,
+    size: u64,
+    root: &Hash,
+    valid: &[u128],
+    missed: &[u128],
+) -> Result<Revision, AllocError>
+    ensures { IfOk result (λ revision. revision ≡ paid_revision_so contract.now (record { number = number; valid = valid.now; missed = missed.now }) size root.now) }
+{
+    with_terms(alloc, &contract.newest, number, size, root, valid, missed)
+}
+
+/// The host's signature of a revision. The error is want of memory.
+pub(crate) fn sign_revision<G: Signer>(
+    alloc: Global,
+    revision: &Revision,
+    signer: &G,
+) -> Result<Blob, AllocError>
+    ensures { IfOk result (G.Makes (G.public_key signer.now) (revision_hash_so revision.now 1)) }
+{
+    let hash = revision_hash(alloc, revision, 1)?;
+    signer.sign(alloc, &hash)
+}
+
+// Whether the renter's signature of a revision is accepted. The error is want of memory.
+fn signs_revision<C: SigCheck>(
+    alloc: Global,
+    renter_key: &[u8; 32],
+    signed: &SignedRevision,
+    check: &C,
+) -> Result<bool, AllocError>
+    ensures { IfOk result (λ accepted. accepted ≡ signs_revision_so C.verdict renter_key.now signed.now.revision signed.now.renter) }
+{
+    let hash = revision_hash(alloc, &signed.revision, 0)?;
+    Ok(check.accepts(renter_key, &hash, signed.renter.as_slice()))
+}
+
+// The hash by which the party with this key index signs a revision. The error is want of memory.
+fn revision_hash(alloc: Global, revision: &Revision, index: u64) -> Result<Hash, AllocError>
+    ensures { IfOk result (λ hash. hash ≡ revision_hash_so revision.now index) }
+{
+    let mut tx = revision_alone(alloc, revision)?;
+    whole_hash(alloc, &mut tx, &revision.parent, index)
+}
+
+// The transaction that has a revision alone. The error is want of memory.
+fn revision_alone(alloc: Global, revision: &Revision) -> Result<Transaction, AllocError>
+    ensures { IfOk result (λ tx. tx ≡ revision_alone_so revision.now) }
+{
+    let mut revisions = List::new(alloc);
+    revisions.push(revision.copy(alloc)?)?;
+    Ok(Transaction {
+        coin_inputs: List::new(alloc),
+        coin_outputs: List::new(alloc),
+        contracts: List::new(alloc),
+        revisions,
+        proofs: List::new(alloc),
+        fund_inputs: List::new(alloc),
+        fund_outputs: List::new(alloc),
+        fees: List::new(alloc),
+        notes: List::new(alloc),
+        signatures: List::new(alloc),
+    })
+}
+
+// Frames the record of a revision that changes no sector. The error is want of memory.
+fn frame_revised(alloc: Global, signed: &SignedRevision) -> Result<RecordBuf, AllocError>
+    ensures { IfOk result (λ framed. framed ≡ record_payload (records.Revised signed.now.revision signed.now.renter signed.now.host [])) }
+{
+    let made = HostRecord::Revised {
+        revision: signed.revision.copy(alloc)?,
+        renter: signed.renter.copy(alloc)?,
+        host: signed.host.copy(alloc)?,
+        changes: List::new(alloc),
+    };
+    frame(alloc, &made)
+}
+
+// Why a signed revision isn't kept, where the journal may be full and the renter's signature may be accepted.
+fn revising_fault(full: bool, accepted: bool) -> Option<u64>
+    ensures { result ≡ (broken full store_full or_else broken (not accepted) bad_signature) }
+{
+    if full {
+        return Some(STORE_FULL);
+    }
+    if !accepted {
+        return Some(BAD_SIGNATURE);
+    }
+    None
+}
+
+// The contract of a revision has it as its newest one, with its sectors as they were. The error is want of memory: then the
+// contracts stay.
+fn revise_kept(
+    alloc: Global,
+    contracts: &mut List<KeptContract>,
+    signed: SignedRevision,
+) -> Result<(), AllocError>
+    requires { AreApart contracts.old }
+    ensures ok { OnOk result (contracts.new ≡ changed_at signed.revision.parent (revised_contract signed.revision signed.renter signed.host []) contracts.old) }
+    ensures apart { OnOk result (AreApart contracts.new) }
+    ensures err { OnErr result (contracts.new ≡ contracts.old) }
+{
+    let SignedRevision {
+        revision,
+        renter,
+        host,
+    } = signed;
+    let signatures = both_signatures(alloc, renter, host)?;
+    revise_found(alloc, contracts, revision, signatures);
+    Ok(())
+}
+
+// The renter's signature and the host's. The error is want of memory.
+fn both_signatures(alloc: Global, renter: Blob, host: Blob) -> Result<List<Blob>, AllocError>
+    ensures { IfOk result (λ signatures. signatures ≡ renter ∷ host ∷ []) }
+{
+    let mut signatures = List::new(alloc);
+    signatures.push(renter)?;
+    signatures.push(host)?;
+    Ok(signatures)
+}
+
+// The contract of a revision, if it is there, has it as its newest one, with these signatures. It takes no memory.
+fn revise_found(
+    alloc: Global,
+    contracts: &mut List<KeptContract>,
+    revision: Revision,
+    signatures: List<Blob>,
+)
+    requires { AreApart contracts.old }
+    ensures { contracts.new ≡ changed_at revision.parent (λ c. record c { newest = revision; signatures = signatures }) contracts.old }
+{
+    match place_of(contracts, &revision.parent) {
+        None => {}
+        Some(place) => revise_at(alloc, contracts, place, revision, signatures),
+    }
+}
+
+// The contract at a place has this newest revision with these signatures. It takes no memory.
+fn revise_at(
+    alloc: Global,
+    contracts: &mut List<KeptContract>,
+    place: usize,
+    revision: Revision,
+    signatures: List<Blob>,
+)
+    requires { place < length contracts.old }
+    ensures { (d : Kept) → contracts.new ≡ slice_set contracts.old place (record (slice_index_or contracts.old place d) { newest = revision; signatures = signatures }) }
+{
+    let mut items = replace(contracts, List::new(alloc)).into_vec();
+    let contract = &mut items[place];
+    contract.newest = revision;
+    contract.signatures = signatures;
+    *contracts = List::from_vec(items);
+}
+
+// The place of the contract with an identifier.
+fn place_of(contracts: &List<KeptContract>, id: &Hash) -> Option<usize>
+    ensures { result ≡ position (λ (c : Kept). bytes_eq c.id id.now) contracts.now }
+{
+    contracts.as_slice().iter().position(|c| c.id == *id)
+}
