@@ -6,14 +6,14 @@ use Rattle.sia_types.specs.declared.transaction.Transaction.{Transaction}
 use Rattle.sia_rhp.specs.declared.request_bodies.FormRequest.{FormRequest}
 use Rattle.sia_forms.specs.declared.funding.Additions.{Additions}
 use Rattle.sia_forms.specs.Building.{finished}
-use Rattle.sia_host.specs.declared.call.Call.{Call}
-use Rattle.sia_host.specs.declared.event.Kind.TheVariants as kind
-use Rattle.sia_host.specs.declared.step.Room.{Room}
-use Rattle.sia_host.specs.declared.step.Step.{Step}
+use Rattle.sia_commands.specs.declared.call.Call.{Call}
+use Rattle.sia_commands.specs.declared.event.Kind.TheVariants as kind
+use Rattle.sia_commands.specs.declared.step.Room.{Room}
+use Rattle.sia_commands.specs.declared.step.Step.{Step}
 use Rattle.sia_host.specs.Answered.{Gives, Host, IsReaction}
 use Rattle.sia_host.specs.Forming.{FormsSigned, IsFormSigned, form_judged, form_kept, with_additions}
 use Rattle.sia_host.specs.Proposals.{IsAddition}
-use Rattle.sia_host.specs.Signing.{AreSignedInputs}
+use Rattle.sia_kept.specs.Signing.{AreSignedInputs}
 use Rattle.sia_host.proofs.Given.{given_so}
 use Rattle.sia_host.proofs.Proposed.{follows}
 

@@ -10,7 +10,7 @@ use Rattle.sia_types.specs.declared.coin.Coin.{Coin}
 use Rattle.sia_forms.specs.declared.fault.FormFault.TheVariants as form_fault
 use Rattle.sia_forms.specs.declared.funding.Additions.{Additions}
 use Rattle.sia_forms.specs.Choices.{AreAdded, IsShort, worth, worth_of}
-use Rattle.sia_host.specs.declared.codes.TheConstants.{NO_FUNDS}
+use Rattle.sia_commands.specs.declared.codes.TheConstants.{NO_FUNDS}
 use Rattle.sia_host.specs.Answered.{Host}
 use Rattle.sia_host.specs.Forming.{AreHosts, free_coins, funded}
 

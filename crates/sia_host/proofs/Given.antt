@@ -1,6 +1,6 @@
 -- A step that is answered by a reaction, as one by a relation.
 use Rattle.std.proofs.Common.{◌≡◌, Result, Ok, Err, IfOk, refl}
-use Rattle.sia_host.specs.declared.step.Step.{Step}
+use Rattle.sia_commands.specs.declared.step.Step.{Step}
 use Rattle.sia_host.specs.Answered.{Gives, Host, IsReaction, Reaction}
 
 -- it is answered by just this one

@@ -1,10 +1,10 @@
 -- Requests about the contract that a session holds, by what their judgement comes to.
 use Rattle.std.proofs.Common.{◌≡◌, ℕ, Result, Ok, Err, Option, Some, None, IfOk, MatchOption, refl, ap, subst, sym}
 use Rattle.sia_encoding.specs.Answer.{◌>>=◌, unless}
-use Rattle.sia_host.specs.declared.call.Call.{Call}
-use Rattle.sia_host.specs.declared.step.Step.{Step}
+use Rattle.sia_commands.specs.declared.call.Call.{Call}
+use Rattle.sia_commands.specs.declared.step.Step.{Step}
 use Rattle.sia_host.specs.Answered.{Gives, Reaction, Host, IsReaction, held_now, refused}
-use Rattle.sia_host.specs.State.{Kept}
+use Rattle.sia_kept.specs.State.{Kept}
 use Rattle.sia_host.specs.Paying.{IsHeld, unrefused}
 
 follows_by : (h : Host) (call : Call) (f : Option ℕ) (c contract : Kept) (Follows : Kept → Reaction → Type 0) (a : Reaction) → (unless f >>= (λ _. Ok c)) ≡ Ok contract → Follows contract a → MatchOption f (Follows c a) (λ code. a ≡ refused h call (held_now h call.session) code)

@@ -3,8 +3,8 @@ use Rattle.std.proofs.Common.{◌≡◌, ℕ, true, List, Result, Ok, Err, Optio
 use Rattle.sia_types.specs.declared.transaction.Transaction.{Transaction}
 use Rattle.sia_forms.specs.declared.funding.Additions.{Additions}
 use Rattle.sia_encoding.specs.Firsts.{broken}
-use Rattle.sia_host.specs.declared.call.Call.{Call}
-use Rattle.sia_host.specs.declared.codes.TheConstants.{BAD_CONTRACT}
+use Rattle.sia_commands.specs.declared.call.Call.{Call}
+use Rattle.sia_commands.specs.declared.codes.TheConstants.{BAD_CONTRACT}
 use Rattle.sia_host.specs.Answered.{Reaction, Host, refused}
 use Rattle.sia_host.specs.Forming.{IsProposed}
 use Rattle.sia_host.specs.Proposals.{IsAddition, IsRefusal}

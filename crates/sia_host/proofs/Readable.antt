@@ -5,7 +5,7 @@ use Rattle.std.proofs.lemmas.Bool.{eqb-false, ltb-false}
 use Rattle.std.proofs.lemmas.List.{take_more, get_or-drop}
 use Rattle.sia_rhp.specs.declared.request_bodies.PaidRoots.{PaidRoots}
 use Rattle.sia_host.specs.Answered.{Host}
-use Rattle.sia_host.specs.State.{Kept}
+use Rattle.sia_kept.specs.State.{Kept}
 use Rattle.sia_host.specs.Paying.{unrefused}
 use Rattle.sia_host.specs.Reading.{is_outside, roots_fault}
 use Rattle.sia_host.proofs.Writable.{same_contract}

@@ -5,17 +5,16 @@ use Rattle.sia_range.specs.Ranges.{part_between, roots_outside}
 use Rattle.sia_rhp.specs.declared.answer.Answer.TheVariants as answer
 use Rattle.sia_rhp.specs.declared.request_bodies.PaidRoots.{PaidRoots}
 use Rattle.sia_records.specs.declared.host_record.HostRecord.TheVariants as records
-use Rattle.sia_host.specs.declared.call.Call.{Call}
-use Rattle.sia_host.specs.declared.event.Kind.TheVariants as kind
-use Rattle.sia_host.specs.declared.reply.Reply.{Reply}
-use Rattle.sia_host.specs.declared.reply.Reply.TheVariants as reply
-use Rattle.sia_host.specs.declared.step.Room.{Room}
-use Rattle.sia_host.specs.declared.step.Step.{Step}
+use Rattle.sia_commands.specs.declared.call.Call.{Call}
+use Rattle.sia_commands.specs.declared.event.Kind.TheVariants as kind
+use Rattle.sia_commands.specs.declared.reply.Reply.{Reply}
+use Rattle.sia_commands.specs.declared.reply.Reply.TheVariants as reply
+use Rattle.sia_commands.specs.declared.step.Room.{Room}
+use Rattle.sia_commands.specs.declared.step.Step.{Step}
 use Rattle.sia_host.specs.Answered.{Gives, Host, IsReaction, no_work}
 use Rattle.sia_host.specs.Paying.{IsRevised, open_now, paid_revision, revised_unless, revising_fault, revision_hash, unrefused}
 use Rattle.sia_host.specs.Reading.{AreRoots, roots_fault, roots_payment, roots_said}
-use Rattle.sia_host.specs.State.{Kept}
-use Rattle.sia_host.specs.Writing.{roots_of}
+use Rattle.sia_kept.specs.State.{Kept, roots_of}
 use Rattle.sia_host.proofs.Given.{given_so}
 use Rattle.sia_host.proofs.Held.{follows_given}
 

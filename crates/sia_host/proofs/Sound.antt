@@ -1,18 +1,29 @@
--- Hosts stay sound: a contract that begins has an identifier of its own.
-use Rattle.std.proofs.Common.{◌≡◌, ◌∙◌, ℕ, false, List, [], ◌∷◌, ◌++◌, Option, Result, Ok, Err, refl, sym, subst, ap}
-use Rattle.std.specs.Option.{option_to_list}
-use Rattle.std.proofs.lemmas.List.{append-nil}
+-- A formation that is answered with what the host adds forms a contract that isn't known, and that stores nothing.
+use Rattle.std.proofs.Common.{◌≡◌, ◌∙◌, ◌+◌, ◌*◌, ◌≤◌, ◌==◌, ◌&&◌, ℕ, Bool, true, false, not, List, [], ◌∷◌, ◌++◌, All, length, Result, Ok, Err, refl, sym, subst, ap, arith}
+use Rattle.std.specs.Str.{bytes_eq}
+use Rattle.std.proofs.lemmas.Bool.{eqb-true}
+use Rattle.sia_encoding.specs.Answer.{◌>>=◌, unless}
+use Rattle.sia_encoding.specs.Firsts.{broken, ◌or_else◌}
+use Rattle.sia_merkle.specs.Roots.{node_root_of}
 use Rattle.sia_ids.specs.Transactions.{contract_id, made_text}
 use Rattle.sia_types.specs.declared.file_contracts.FileContract.{FileContract}
+use Rattle.sia_types.specs.declared.settings.Settings.{Settings}
 use Rattle.sia_types.specs.declared.signature.Signature.{Signature}
 use Rattle.sia_types.specs.declared.transaction.Transaction.{Transaction}
+use Rattle.sia_rhp.specs.declared.request_bodies.FormRequest.{FormRequest}
+use Rattle.sia_forms.specs.declared.fault.FormFault.{FormFault}
+use Rattle.sia_forms.specs.declared.fault.FormFault.TheVariants as form_fault
 use Rattle.sia_forms.specs.declared.funding.Additions.{Additions}
 use Rattle.sia_forms.specs.Building.{finished}
-use Rattle.sia_host.specs.Answered.{Host}
-use Rattle.sia_host.specs.Forming.{is_formed, with_additions}
+use Rattle.sia_forms.specs.Checks.{Asked, asked_to_form, begins_with, collateral_within, contract_answer, form_answer, has_no_other_part, host_value_of, keeps_window, one_contract, pays_parties, terms_fault}
+use Rattle.sia_forms.specs.Parties.{both_address, zero_hash}
+use Rattle.sia_commands.specs.declared.codes.TheConstants.{WRONG_STATE}
+use Rattle.sia_kept.specs.declared.session.Session.{Session}
+use Rattle.sia_kept.specs.State.{Kept, IsStored, first_revision, formed_by, is_among, new_contract}
+use Rattle.sia_kept.proofs.Apart.{same_bytes}
+use Rattle.sia_host.specs.Answered.{Host, idle_now, settings_now}
+use Rattle.sia_host.specs.Forming.{by_terms, form_judged, form_terms, funded, is_formed, with_additions}
 use Rattle.sia_host.specs.Proposals.{IsAddition}
-use Rattle.sia_host.specs.State.{Kept, AreApart, IsSound, formed_by, is_among, new_contract}
-use Rattle.sia_host.proofs.Apart.{apart_more}
 
 -- signatures don't name a contract
 same_id : (tx : Transaction) (added : Additions) (renter host : List Signature) → contract_id (finished tx added renter host) 0 ≡ contract_id (with_additions tx added) 0
@@ -31,16 +42,74 @@ pub added_new : (h : Host) (tx : Transaction) (judged : Result ℕ ℕ) (added :
 added_new h tx (Err code) added is = elim is [ ]
 added_new h tx (Ok collateral) added is = is.1
 
--- the contract that a transaction forms has the transaction's identifier
-formed_apart : (host_key renter_key : List ℕ) (tx : Transaction) (terms : List FileContract) (contracts : List Kept)
-    → AreApart contracts → is_among (contract_id tx 0) contracts ≡ false → AreApart (contracts ++ formed_by host_key renter_key tx [] terms)
-unfolding new_contract
-formed_apart host_key renter_key tx [] contracts are new = subst AreApart (sym (append-nil contracts)) are
-formed_apart host_key renter_key tx (terms ∷ others) contracts are new = apart_more contracts (new_contract host_key renter_key tx [] terms) are new
+-- a contract that a formation may have begins with nothing
+begins_empty : (s : Settings) (address : List ℕ) (c : FileContract) (collateral : ℕ) → contract_answer s (asked_to_form s address) c ≡ Ok collateral → begins_with 0 zero_hash address c ≡ true
+unfolding contract_answer terms_fault
+begins_empty s address c collateral = by (begins_with 0 zero_hash address c)
+  where
+    by : (b : Bool)
+        → (unless (broken (not b) (form_fault.BadContract 1) or_else broken (not (pays_parties s 0 c.valid c.missed)) (form_fault.BadContract 2) or_else broken (not (keeps_window s c)) (form_fault.BadContract 3))
+        >>= (λ _. collateral_within s s.prices.contract_price (host_value_of c.valid))) ≡ Ok collateral → b ≡ true
+    by true is = refl
+    by false is = (cc)
 
--- a host stays sound with it
-pub sound_formed : (sector : ℕ) (host_key renter_key : List ℕ) (tx : Transaction) (old new : List Kept) (kept : Option Kept)
-    → IsSound sector old → is_among (contract_id tx 0) old ≡ false → option_to_list kept ≡ formed_by host_key renter_key tx [] tx.contracts → new ≡ old ++ option_to_list kept → IsSound sector new
-sound_formed sector host_key renter_key tx old new kept sound none is grown =
-    let same : new ≡ old ++ formed_by host_key renter_key tx [] tx.contracts = grown ∙ ap (λ xs. old ++ xs) is in
-    record { size = sound.size; apart = subst AreApart (sym same) (formed_apart host_key renter_key tx tx.contracts old sound.apart none) }
+-- the contract of a formation that is accepted
+pub record Begun (tx : Transaction) : Type 0 where
+  pub terms : FileContract
+  pub one : tx.contracts ≡ terms ∷ []
+  pub size : terms.size ≡ 0
+  pub root : terms.root ≡ zero_hash
+
+nothing_yet : (tx : Transaction) (address : List ℕ) (c : FileContract) → tx.contracts ≡ c ∷ [] → begins_with 0 zero_hash address c ≡ true → Begun tx
+nothing_yet tx address c one is = by (c.size == 0) (bytes_eq c.root zero_hash) refl refl is
+  where
+    by : (a b : Bool) → (c.size == 0) ≡ a → bytes_eq c.root zero_hash ≡ b → (a && b && (c.number == 0) && bytes_eq c.address address) ≡ true → Begun tx
+    by true true size root is = record { terms = c; one = one; size = eqb-true c.size 0 size; root = same_bytes c.root zero_hash root }
+    by true false size root is = (cc)
+    by false b size root is = (cc)
+
+form_begins : (tx : Transaction) (key : List ℕ) (s : Settings) (collateral : ℕ) → form_answer tx key s ≡ Ok collateral → Begun tx
+unfolding form_answer
+form_begins tx key s collateral = by ((length tx.revisions == 0) && has_no_other_part tx) tx.contracts refl
+  where
+    by : (fit : Bool) (cs : List FileContract) → tx.contracts ≡ cs → (one_contract fit cs >>= (λ c. contract_answer s (asked_to_form s (both_address key s.host_key)) c)) ≡ Ok collateral → Begun tx
+    by true [] one is = (cc)
+    by true (c ∷ []) one is = nothing_yet tx (both_address key s.host_key) c one (begins_empty s (both_address key s.host_key) c collateral is)
+    by true (c ∷ other ∷ more) one is = (cc)
+    by false cs one is = (cc)
+
+judged_begins : (h : Host) (session : ℕ) (request : FormRequest) (collateral : ℕ) → form_judged h session request ≡ Ok collateral → Begun request.transaction
+judged_begins h session request collateral = by (idle_now h session) (form_answer request.transaction request.renter_key (settings_now h)) refl
+  where
+    by : (live : Result Session ℕ) (answer : Result ℕ FormFault) → form_answer request.transaction request.renter_key (settings_now h) ≡ answer
+        → ((live >>= (λ _. by_terms answer)) >>= funded h) ≡ Ok collateral → Begun request.transaction
+    by (Err code) answer at is = (cc)
+    by (Ok live) (Err fault) at is = (cc)
+    by (Ok live) (Ok found) at is = form_begins request.transaction request.renter_key (settings_now h) found at
+
+no_root : node_root_of [] ≡ zero_hash
+unfolding node_root_of
+no_root = refl
+
+-- a contract that stores nothing
+empty_stored : (sector : ℕ) (host_key renter_key : List ℕ) (tx : Transaction) (terms : FileContract) → terms.size ≡ 0 → terms.root ≡ zero_hash → IsStored sector (new_contract host_key renter_key tx [] terms)
+unfolding new_contract first_revision
+empty_stored sector host_key renter_key tx terms size root = record { parent = refl; few = omega arith; size = size ∙ sym (*-zero sector); root = root ∙ sym no_root }
+
+-- the contract of a formation that is answered with what the host adds stores nothing yet
+pub formed_stored : (h : Host) (session : ℕ) (request : FormRequest) (added : Additions) (sector : ℕ) (host_key : List ℕ) (whole : Transaction)
+    → IsAddition h request.transaction (form_judged h session request) added → whole.contracts ≡ request.transaction.contracts
+    → All (IsStored sector) (formed_by host_key request.renter_key whole [] whole.contracts)
+formed_stored h session request added sector host_key whole = by (form_judged h session request) refl
+  where
+    by : (judged : Result ℕ ℕ) → form_judged h session request ≡ judged → IsAddition h request.transaction judged added → whole.contracts ≡ request.transaction.contracts
+        → All (IsStored sector) (formed_by host_key request.renter_key whole [] whole.contracts)
+    by (Err code) at is same = elim is [ ]
+    by (Ok collateral) at is same =
+        let begun = judged_begins h session request collateral at in
+        subst (λ cs. All (IsStored sector) (formed_by host_key request.renter_key whole [] cs)) (sym (same ∙ begun.one)) (empty_stored sector host_key request.renter_key whole begun.terms begun.size begun.root, tt)
+
+-- the whole transaction has its contracts
+pub whole_contracts : (tx : Transaction) (added : Additions) (renter host : List Signature) (whole : Transaction) → whole ≡ finished tx added renter host → whole.contracts ≡ tx.contracts
+unfolding finished
+whole_contracts tx added renter host whole is = ap (λ (t : Transaction). t.contracts) is

@@ -9,9 +9,9 @@ use Rattle.sia_diff.proofs.Counts.{left_of_and, right_of_and}
 use Rattle.sia_rhp.specs.declared.action.Action.{Action}
 use Rattle.sia_rhp.specs.declared.action.Action.TheVariants as actions
 use Rattle.sia_records.specs.Writes.{Prepared, is_prepared, left_behind, new_by, puts_sector, sectors_of, steps_of, with_sectors}
-use Rattle.sia_host.specs.declared.step.Room.{Room}
+use Rattle.sia_commands.specs.declared.step.Room.{Room}
 use Rattle.sia_host.specs.Answered.{Host}
-use Rattle.sia_host.specs.State.{Kept}
+use Rattle.sia_kept.specs.State.{Kept}
 use Rattle.sia_host.specs.Paying.{unrefused}
 use Rattle.sia_host.specs.Writing.{can_write, write_fault}
 

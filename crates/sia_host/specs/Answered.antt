@@ -8,20 +8,20 @@ use Rattle.sia_types.specs.declared.settings.Settings.{Settings}
 use Rattle.sia_ledger.specs.Chain.{height}
 use Rattle.sia_records.specs.declared.host_record.HostRecord.{HostRecord}
 use Rattle.sia_records.specs.HostRecords.{host_record}
-use Rattle.sia_host.specs.declared.call.Call.{Call}
-use Rattle.sia_host.specs.declared.codes.TheConstants.{WRONG_STATE, NO_CONTRACT}
-use Rattle.sia_host.specs.declared.event.Event.{Event}
-use Rattle.sia_host.specs.declared.event.Kind.{Kind}
-use Rattle.sia_host.specs.declared.event.Outcome.{Outcome}
-use Rattle.sia_host.specs.declared.event.Outcome.TheVariants as outcome
-use Rattle.sia_host.specs.declared.reply.Reply.{Reply}
-use Rattle.sia_host.specs.declared.reply.Reply.TheVariants as reply
-use Rattle.sia_host.specs.declared.session.Session.{Session}
-use Rattle.sia_host.specs.declared.step.PutJob.{PutJob}
-use Rattle.sia_host.specs.declared.step.Room.{Room}
-use Rattle.sia_host.specs.declared.step.Step.{Step}
-use Rattle.sia_host.specs.Sessions.{begins, challenge_at, holder_among, live_sessions, with_number}
-use Rattle.sia_host.specs.State.{Kept, HostState, with_record, contract_among, counted_more}
+use Rattle.sia_commands.specs.declared.call.Call.{Call}
+use Rattle.sia_commands.specs.declared.codes.TheConstants.{WRONG_STATE, NO_CONTRACT}
+use Rattle.sia_commands.specs.declared.event.Event.{Event}
+use Rattle.sia_commands.specs.declared.event.Kind.{Kind}
+use Rattle.sia_commands.specs.declared.event.Outcome.{Outcome}
+use Rattle.sia_commands.specs.declared.event.Outcome.TheVariants as outcome
+use Rattle.sia_commands.specs.declared.reply.Reply.{Reply}
+use Rattle.sia_commands.specs.declared.reply.Reply.TheVariants as reply
+use Rattle.sia_kept.specs.declared.session.Session.{Session}
+use Rattle.sia_commands.specs.declared.step.PutJob.{PutJob}
+use Rattle.sia_commands.specs.declared.step.Room.{Room}
+use Rattle.sia_commands.specs.declared.step.Step.{Step}
+use Rattle.sia_kept.specs.Sessions.{begins, challenge_at, holder_among, live_sessions, with_number}
+use Rattle.sia_kept.specs.State.{Kept, HostState, with_record, contract_among, counted_more}
 
 -- a host: its settings, whose height isn't looked at, its margin and its seed; what it knows by its records; and the events of
 -- this run

@@ -1,12 +1,12 @@
 -- What a host answers to one that comes or goes, and to one that asks for its settings (RHP2; siad's modules/negotiate.go).
 use Rattle.std.specs.Prelude.{ℕ, List, [], ◌∷◌, Option, Some, None}
 use Rattle.sia_rhp.specs.declared.answer.Answer.TheVariants as answer
-use Rattle.sia_host.specs.declared.call.Call.{Call}
-use Rattle.sia_host.specs.declared.codes.TheConstants.{WRONG_STATE}
-use Rattle.sia_host.specs.declared.event.Kind.TheVariants as kind
-use Rattle.sia_host.specs.declared.event.Outcome.TheVariants as outcome
-use Rattle.sia_host.specs.declared.reply.Reply.TheVariants as reply
-use Rattle.sia_host.specs.declared.session.Session.{Session}
+use Rattle.sia_commands.specs.declared.call.Call.{Call}
+use Rattle.sia_commands.specs.declared.codes.TheConstants.{WRONG_STATE}
+use Rattle.sia_commands.specs.declared.event.Kind.TheVariants as kind
+use Rattle.sia_commands.specs.declared.event.Outcome.TheVariants as outcome
+use Rattle.sia_commands.specs.declared.reply.Reply.TheVariants as reply
+use Rattle.sia_kept.specs.declared.session.Session.{Session}
 use Rattle.sia_host.specs.Answered.{Reaction, Host, answered, next_challenge, next_session, no_work, session_now, settings_now}
 
 -- a session begins, with a number and a challenge of its own

@@ -7,12 +7,12 @@ use Rattle.sia_ledger.specs.Chain.{height}
 use Rattle.sia_ledger.specs.Refusal.{refusal}
 use Rattle.sia_records.specs.declared.host_record.HostRecord.{HostRecord}
 use Rattle.sia_records.specs.declared.host_record.HostRecord.TheVariants as records
-use Rattle.sia_host.specs.declared.call.Call.{Call}
-use Rattle.sia_host.specs.declared.codes.TheConstants.{STORE_FULL}
-use Rattle.sia_host.specs.declared.event.Kind.TheVariants as kind
-use Rattle.sia_host.specs.declared.event.Outcome.TheVariants as outcome
-use Rattle.sia_host.specs.declared.reply.Reply.TheVariants as reply
-use Rattle.sia_host.specs.declared.step.Room.{Room}
+use Rattle.sia_commands.specs.declared.call.Call.{Call}
+use Rattle.sia_commands.specs.declared.codes.TheConstants.{STORE_FULL}
+use Rattle.sia_commands.specs.declared.event.Kind.TheVariants as kind
+use Rattle.sia_commands.specs.declared.event.Outcome.TheVariants as outcome
+use Rattle.sia_commands.specs.declared.reply.Reply.TheVariants as reply
+use Rattle.sia_commands.specs.declared.step.Room.{Room}
 use Rattle.sia_host.specs.Answered.{Reaction, Host, answered, lacks_room, refused}
 
 -- the number of the rule that a block breaks, as its name begins; want of memory has none

@@ -23,14 +23,14 @@ use Rattle.sia_forms.specs.Checks.{form_answer}
 use Rattle.sia_forms.specs.Choices.{AreAdded, worth_of}
 use Rattle.sia_records.specs.declared.host_record.HostRecord.{HostRecord}
 use Rattle.sia_records.specs.declared.host_record.HostRecord.TheVariants as records
-use Rattle.sia_host.specs.declared.call.Call.{Call}
-use Rattle.sia_host.specs.declared.codes.TheConstants.{BAD_CONTRACT, BAD_SIGNATURE, NO_FUNDS, STORE_FULL}
-use Rattle.sia_host.specs.declared.event.Kind.TheVariants as kind
-use Rattle.sia_host.specs.declared.event.Outcome.TheVariants as outcome
-use Rattle.sia_host.specs.declared.reply.Reply.TheVariants as reply
-use Rattle.sia_host.specs.declared.step.Room.{Room}
-use Rattle.sia_host.specs.Signing.{AreSignedInputs}
-use Rattle.sia_host.specs.State.{Kept, is_among}
+use Rattle.sia_commands.specs.declared.call.Call.{Call}
+use Rattle.sia_commands.specs.declared.codes.TheConstants.{BAD_CONTRACT, BAD_SIGNATURE, NO_FUNDS, STORE_FULL}
+use Rattle.sia_commands.specs.declared.event.Kind.TheVariants as kind
+use Rattle.sia_commands.specs.declared.event.Outcome.TheVariants as outcome
+use Rattle.sia_commands.specs.declared.reply.Reply.TheVariants as reply
+use Rattle.sia_commands.specs.declared.step.Room.{Room}
+use Rattle.sia_kept.specs.Signing.{AreSignedInputs}
+use Rattle.sia_kept.specs.State.{Kept, is_among}
 use Rattle.sia_host.specs.Answered.{Reaction, Host, answered, idle_now, lacks_room, next_height, refused, settings_now}
 
 -- the host's coins

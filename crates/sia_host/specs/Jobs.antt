@@ -14,11 +14,10 @@ use Rattle.sia_types.specs.declared.transaction.Transaction.{Transaction}
 use Rattle.sia_ledger.specs.Holdings.{id_at, terms_of}
 use Rattle.sia_ledger.specs.Order.{ascending_by}
 use Rattle.sia_records.specs.Stored.{no_sector}
-use Rattle.sia_host.specs.OutJobs.{proof_alone}
-use Rattle.sia_host.specs.Signing.{whole_signature}
-use Rattle.sia_host.specs.State.{Kept}
+use Rattle.sia_commands.specs.OutJobs.{proof_alone}
+use Rattle.sia_kept.specs.Signing.{whole_signature}
+use Rattle.sia_kept.specs.State.{Kept, roots_of}
 use Rattle.sia_host.specs.Paying.{revision_alone}
-use Rattle.sia_host.specs.Writing.{roots_of}
 use Rattle.sia_host.specs.Answered.{Host, next_height}
 
 -- a contract that runs on the chain by these terms is stale: its window is near, and its newest revision isn't mined

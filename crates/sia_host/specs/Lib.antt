@@ -1,13 +1,9 @@
-pub mod Sessions
-pub mod Logs
 pub mod Refusals
-pub mod State
 pub mod Answered
 pub mod Beginning
 pub mod Entering
 pub mod Locking
 pub mod Feeding
-pub mod Signing
 pub mod Forming
 pub mod Proposals
 pub mod Answers
@@ -19,5 +15,4 @@ pub mod Renewing
 pub mod Jobs
 pub mod Replaying
 pub mod Least
-pub mod OutJobs
 pub mod Outbox

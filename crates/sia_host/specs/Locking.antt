@@ -8,13 +8,13 @@ use Rattle.sia_encoding.specs.Spelling.{label}
 use Rattle.sia_rhp.specs.declared.answer.Answer.TheVariants as answer
 use Rattle.sia_rhp.specs.declared.answer_bodies.LockAnswer.{LockAnswer}
 use Rattle.sia_rhp.specs.declared.request_bodies.LockRequest.{LockRequest}
-use Rattle.sia_host.specs.declared.call.Call.{Call}
-use Rattle.sia_host.specs.declared.codes.TheConstants.{BAD_SIGNATURE, WRONG_STATE}
-use Rattle.sia_host.specs.declared.event.Kind.TheVariants as kind
-use Rattle.sia_host.specs.declared.event.Outcome.TheVariants as outcome
-use Rattle.sia_host.specs.declared.reply.Reply.TheVariants as reply
-use Rattle.sia_host.specs.declared.session.Session.{Session}
-use Rattle.sia_host.specs.State.{Kept}
+use Rattle.sia_commands.specs.declared.call.Call.{Call}
+use Rattle.sia_commands.specs.declared.codes.TheConstants.{BAD_SIGNATURE, WRONG_STATE}
+use Rattle.sia_commands.specs.declared.event.Kind.TheVariants as kind
+use Rattle.sia_commands.specs.declared.event.Outcome.TheVariants as outcome
+use Rattle.sia_commands.specs.declared.reply.Reply.TheVariants as reply
+use Rattle.sia_kept.specs.declared.session.Session.{Session}
+use Rattle.sia_kept.specs.State.{Kept}
 use Rattle.sia_host.specs.Answered.{Reaction, Host, answered, contract_now, held_now, holder_now, idle_now, next_challenge, refused}
 
 -- what a request for a lock signs: the challenge and the contract's identifier

@@ -1,23 +1,22 @@
 -- What a host answers to one that asks for the next contract for which something is to be mined (Sia whitepaper, "Storage proofs"; siad's
 -- modules/host).
-use Rattle.std.specs.Prelude.{ℕ, ◌-◌, Bool, List, Option, Some, None, slice_index_or}
+use Rattle.std.specs.Prelude.{ℕ, Bool, List, Option, Some, None, slice_index_or}
 use Rattle.std.specs.Option.{option_and_then, option_map}
 use Rattle.sia_types.specs.declared.terms.Terms.{Terms}
-use Rattle.sia_ledger.specs.Holdings.{id_at, terms_of}
+use Rattle.sia_ledger.specs.Holdings.{terms_of}
 use Rattle.sia_records.specs.Stored.{no_sector}
-use Rattle.sia_host.specs.declared.call.Call.{Call}
-use Rattle.sia_host.specs.declared.event.Kind.{Kind}
-use Rattle.sia_host.specs.declared.event.Kind.TheVariants as kind
-use Rattle.sia_host.specs.declared.event.Outcome.TheVariants as outcome
-use Rattle.sia_host.specs.declared.out_job.AskedProof.{AskedProof}
+use Rattle.sia_commands.specs.declared.call.Call.{Call}
+use Rattle.sia_commands.specs.declared.event.Kind.{Kind}
+use Rattle.sia_commands.specs.declared.event.Kind.TheVariants as kind
+use Rattle.sia_commands.specs.declared.event.Outcome.TheVariants as outcome
+use Rattle.sia_commands.specs.declared.out_job.AskedProof.{AskedProof}
 use Rattle.sia_host.specs.declared.outbox.Due.{Due}
 use Rattle.sia_host.specs.declared.outbox.Stale.{Stale}
-use Rattle.sia_host.specs.declared.reply.Reply.TheVariants as reply
-use Rattle.sia_host.specs.State.{Kept}
+use Rattle.sia_commands.specs.declared.reply.Reply.TheVariants as reply
+use Rattle.sia_kept.specs.State.{Kept, roots_of}
 use Rattle.sia_host.specs.Feeding.{no_session}
-use Rattle.sia_host.specs.Jobs.{due_contracts, next_after, stale_contracts, stale_job}
-use Rattle.sia_host.specs.OutJobs.{Whole, Lacking, asked_of}
-use Rattle.sia_host.specs.Writing.{roots_of}
+use Rattle.sia_host.specs.Jobs.{due_contracts, next_after, stale_contracts, stale_job, trigger_of}
+use Rattle.sia_commands.specs.OutJobs.{Whole, Lacking, asked_of}
 use Rattle.sia_host.specs.Answered.{Reaction, Host, answered, fetching, worked}
 
 -- no session asks for the next contract
@@ -41,21 +40,19 @@ stale_handed h call (Some stale) = answered h call (Some stale.contract) outcome
 abbrev pub stale_reaction : Host → ℕ → List ℕ → Bool → Reaction
 stale_reaction h worker id first = stale_handed h (asking worker kind.Stale) (option_map (stale_of h) (next_after id first (stale_contracts h)))
 
--- the storage proof that is asked for of a contract by these terms: the block before the window chooses the leaf
-abbrev pub asked_by : Host → Kept → Terms → Option AskedProof
-asked_by h c terms = option_and_then (asked_of c.id (roots_of c) h.settings.sector) (id_at h.state.chain (terms.start - 1))
+-- the storage proof that is asked for of a contract that runs by these terms: the block before the window chooses the leaf
+abbrev pub asked_by : Host → Kept → Terms → AskedProof
+asked_by h c terms = asked_of c.id (roots_of c) h.settings.sector (trigger_of h terms)
 
--- the storage proof that is asked for of a contract that runs on the chain
-abbrev pub asked_now : Host → Kept → Option AskedProof
-asked_now h c = option_and_then (asked_by h c) (terms_of h.state.chain c.id)
+-- a contract that runs by these terms, the storage proof that is asked for, and the slot of the sector that it needs
+abbrev pub due_by : Host → Kept → Terms → Due
+due_by h c terms =
+    let asked = asked_by h c terms in
+    record { contract = c.id; asked = asked; slot = (slice_index_or c.sectors asked.place no_sector).slot }
 
--- a due contract, the storage proof that is asked for, and the slot of the sector that it needs
-abbrev pub due_with : Kept → AskedProof → Due
-due_with c asked = record { contract = c.id; asked = asked; slot = (slice_index_or c.sectors asked.place no_sector).slot }
-
--- the same, if a storage proof can be asked for
-abbrev pub due_asked : Host → Kept → Option Due
-due_asked h c = option_map (due_with c) (asked_now h c)
+-- the same of a contract that runs on the chain, as each due one does
+abbrev pub due_of : Host → Kept → Option Due
+due_of h c = option_map (due_by h c) (terms_of h.state.chain c.id)
 
 -- the next due contract is handed out, or none: its job lacks the bytes of the sector, which are to be fetched
 abbrev pub due_handed : Host → Call → Option Due → Reaction
@@ -64,4 +61,4 @@ due_handed h call (Some due) = worked h call (Some due.contract) outcome.Fine (r
 
 -- the answer to one that asks for the due contract with the least identifier above this one, or with the least of all
 abbrev pub due_reaction : Host → ℕ → List ℕ → Bool → Reaction
-due_reaction h worker id first = due_handed h (asking worker kind.Due) (option_and_then (due_asked h) (next_after id first (due_contracts h)))
+due_reaction h worker id first = due_handed h (asking worker kind.Due) (option_and_then (due_of h) (next_after id first (due_contracts h)))

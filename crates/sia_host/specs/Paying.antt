@@ -13,13 +13,13 @@ use Rattle.sia_price.specs.Payments.{payment_fault, revision_with}
 use Rattle.sia_records.specs.declared.change.Change.{Change}
 use Rattle.sia_records.specs.declared.host_record.HostRecord.{HostRecord}
 use Rattle.sia_records.specs.declared.host_record.HostRecord.TheVariants as records
-use Rattle.sia_host.specs.declared.call.Call.{Call}
-use Rattle.sia_host.specs.declared.codes.TheConstants.{BAD_PAYMENT, BAD_SIGNATURE, CLEARED, LOW_REVISION, STORE_FULL, TOO_LATE, WRONG_STATE}
-use Rattle.sia_host.specs.declared.reply.Reply.{Reply}
-use Rattle.sia_host.specs.declared.step.Room.{Room}
-use Rattle.sia_host.specs.declared.event.Outcome.TheVariants as outcome
-use Rattle.sia_host.specs.Signing.{whole_hash}
-use Rattle.sia_host.specs.State.{Kept, contract_among}
+use Rattle.sia_commands.specs.declared.call.Call.{Call}
+use Rattle.sia_commands.specs.declared.codes.TheConstants.{BAD_PAYMENT, BAD_SIGNATURE, CLEARED, LOW_REVISION, STORE_FULL, TOO_LATE, WRONG_STATE}
+use Rattle.sia_commands.specs.declared.reply.Reply.{Reply}
+use Rattle.sia_commands.specs.declared.step.Room.{Room}
+use Rattle.sia_commands.specs.declared.event.Outcome.TheVariants as outcome
+use Rattle.sia_kept.specs.Signing.{whole_hash}
+use Rattle.sia_kept.specs.State.{Kept, contract_among}
 use Rattle.sia_host.specs.Answered.{Reaction, Host, Work, held_now, lacks_room, next_height, no_work, or_code, refused, worked}
 
 -- the contract

@@ -3,7 +3,7 @@
 use Rattle.std.specs.Prelude.{◌≡◌, ℕ, true, false, List, Result, Ok, Err}
 use Rattle.sia_types.specs.declared.transaction.Transaction.{Transaction}
 use Rattle.sia_forms.specs.declared.funding.Additions.{Additions}
-use Rattle.sia_host.specs.declared.codes.TheConstants.{BAD_CONTRACT}
+use Rattle.sia_commands.specs.declared.codes.TheConstants.{BAD_CONTRACT}
 use Rattle.sia_host.specs.declared.refusal.Refusal.{Refusal}
 use Rattle.sia_host.specs.declared.refusal.Refusal.TheVariants as refusal
 use Rattle.sia_host.specs.Answered.{Host}

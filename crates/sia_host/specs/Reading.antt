@@ -13,15 +13,15 @@ use Rattle.sia_rhp.specs.declared.request_bodies.PaidRoots.{PaidRoots}
 use Rattle.sia_rhp.specs.declared.request_bodies.ReadRequest.{ReadRequest}
 use Rattle.sia_rhp.specs.declared.request_bodies.Section.{Section}
 use Rattle.sia_records.specs.Reads.{Read, is_served, parts_of}
-use Rattle.sia_host.specs.declared.call.Call.{Call}
-use Rattle.sia_host.specs.declared.codes.TheConstants.{BAD_RANGE, NO_SECTOR}
-use Rattle.sia_host.specs.declared.event.Kind.TheVariants as kind
-use Rattle.sia_host.specs.declared.reply.Reply.{Reply}
-use Rattle.sia_host.specs.declared.reply.Reply.TheVariants as reply
-use Rattle.sia_host.specs.declared.step.Room.{Room}
-use Rattle.sia_host.specs.State.{Kept}
+use Rattle.sia_commands.specs.declared.call.Call.{Call}
+use Rattle.sia_commands.specs.declared.codes.TheConstants.{BAD_RANGE, NO_SECTOR}
+use Rattle.sia_commands.specs.declared.event.Kind.TheVariants as kind
+use Rattle.sia_commands.specs.declared.reply.Reply.{Reply}
+use Rattle.sia_commands.specs.declared.reply.Reply.TheVariants as reply
+use Rattle.sia_commands.specs.declared.step.Room.{Room}
+use Rattle.sia_kept.specs.State.{Kept, roots_of}
 use Rattle.sia_host.specs.Paying.{IsHeld, IsRevised, Payment, open_now, paid_revision, unpaid}
-use Rattle.sia_host.specs.Writing.{roots_of, slot_with}
+use Rattle.sia_host.specs.Writing.{slot_with}
 use Rattle.sia_host.specs.Answered.{Reaction, Host, no_work}
 
 -- parts of sectors

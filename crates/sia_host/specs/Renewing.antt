@@ -11,14 +11,14 @@ use Rattle.sia_forms.specs.declared.funding.Additions.{Additions}
 use Rattle.sia_forms.specs.Building.{finished}
 use Rattle.sia_forms.specs.Checks.{renew_answer}
 use Rattle.sia_records.specs.declared.host_record.HostRecord.TheVariants as records
-use Rattle.sia_host.specs.declared.call.Call.{Call}
-use Rattle.sia_host.specs.declared.codes.TheConstants.{TOO_LATE}
-use Rattle.sia_host.specs.declared.event.Kind.TheVariants as kind
-use Rattle.sia_host.specs.declared.event.Outcome.TheVariants as outcome
-use Rattle.sia_host.specs.declared.reply.Reply.TheVariants as reply
-use Rattle.sia_host.specs.declared.step.Room.{Room}
-use Rattle.sia_host.specs.State.{Kept}
-use Rattle.sia_host.specs.Signing.{AreSignedInputs, IsSignedFor}
+use Rattle.sia_commands.specs.declared.call.Call.{Call}
+use Rattle.sia_commands.specs.declared.codes.TheConstants.{TOO_LATE}
+use Rattle.sia_commands.specs.declared.event.Kind.TheVariants as kind
+use Rattle.sia_commands.specs.declared.event.Outcome.TheVariants as outcome
+use Rattle.sia_commands.specs.declared.reply.Reply.TheVariants as reply
+use Rattle.sia_commands.specs.declared.step.Room.{Room}
+use Rattle.sia_kept.specs.State.{Kept}
+use Rattle.sia_kept.specs.Signing.{AreSignedInputs, IsSignedFor}
 use Rattle.sia_host.specs.Forming.{IsProposed, by_terms, funded, with_additions, keeping_fault}
 use Rattle.sia_host.specs.Paying.{is_late, open_now}
 use Rattle.sia_host.specs.Answered.{Reaction, Host, answered, held_now, lacks_room, refused, settings_now}

@@ -24,9 +24,8 @@ use Rattle.sia_records.specs.declared.change.Change.TheVariants as changes
 use Rattle.sia_records.specs.declared.host_record.HostRecord.{HostRecord}
 use Rattle.sia_records.specs.declared.host_record.HostRecord.TheVariants as records
 use Rattle.sia_records.specs.Stored.{step_of}
-use Rattle.sia_host.specs.State.{Kept, contract_among, is_among, is_free_slot, live_slots}
+use Rattle.sia_kept.specs.State.{Kept, contract_among, is_among, is_free_slot, live_slots, roots_of}
 use Rattle.sia_host.specs.Paying.{Payment, is_late, is_low, paid_revision, signs_revision, was_cleared}
-use Rattle.sia_host.specs.Writing.{roots_of}
 use Rattle.sia_host.specs.Answered.{Host}
 
 -- contracts that begin

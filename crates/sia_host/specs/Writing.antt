@@ -20,27 +20,19 @@ use Rattle.sia_records.specs.declared.change.Change.{Change}
 use Rattle.sia_records.specs.declared.change.Change.TheVariants as changes
 use Rattle.sia_records.specs.Stored.{Stored, changes_of, no_sector, stored_after_one}
 use Rattle.sia_records.specs.Writes.{Prepared, is_prepared, is_update, sectors_of, steps_of, updates_of}
-use Rattle.sia_host.specs.declared.call.Call.{Call}
-use Rattle.sia_host.specs.declared.codes.TheConstants.{BAD_ACTION, STORE_FULL}
-use Rattle.sia_host.specs.declared.event.Kind.TheVariants as kind
-use Rattle.sia_host.specs.declared.event.Outcome.TheVariants as outcome
-use Rattle.sia_host.specs.declared.reply.Reply.{Reply}
-use Rattle.sia_host.specs.declared.reply.Reply.TheVariants as reply
-use Rattle.sia_host.specs.declared.step.PutJob.{PutJob}
-use Rattle.sia_host.specs.declared.step.Room.{Room}
-use Rattle.sia_host.specs.State.{Kept}
+use Rattle.sia_commands.specs.declared.call.Call.{Call}
+use Rattle.sia_commands.specs.declared.codes.TheConstants.{BAD_ACTION, STORE_FULL}
+use Rattle.sia_commands.specs.declared.event.Kind.TheVariants as kind
+use Rattle.sia_commands.specs.declared.event.Outcome.TheVariants as outcome
+use Rattle.sia_commands.specs.declared.reply.Reply.{Reply}
+use Rattle.sia_commands.specs.declared.reply.Reply.TheVariants as reply
+use Rattle.sia_commands.specs.declared.step.PutJob.{PutJob}
+use Rattle.sia_commands.specs.declared.step.Room.{Room}
+use Rattle.sia_kept.specs.State.{Kept, roots_of}
 use Rattle.sia_host.specs.Paying.{IsHeld, IsRevised, Payment, open_now, paid_revision, unpaid}
 use Rattle.sia_host.specs.Answered.{Reaction, Host, Work, answered}
 
 -- a contract's sectors
-
--- the root of a sector
-abbrev pub root_in : Stored → List ℕ
-root_in sector = sector.root
-
--- the roots of a contract's sectors, in order
-abbrev pub roots_of : Kept → List (List ℕ)
-roots_of c = map root_in c.sectors
 
 -- the slot of a sector
 abbrev pub sector_slot : Stored → ℕ

@@ -3,12 +3,9 @@ ghost use Rattle.std.specs.Prelude.{◌≡◌, ◌≢◌, Err, IfOk, OnErr};
 ghost use Rattle.sia_host.specs.Answered.{IsReaction};
 ghost use Rattle.sia_host.specs.Entering.{enter_reaction, leave_reaction, settings_reaction};
 
-use crate::call::Call;
-use crate::codes::WRONG_STATE;
-use crate::event::{Kind, Outcome};
 use crate::host_core::Core;
-use crate::reply::Reply;
-use crate::step::Step;
+use sia_commands::codes::WRONG_STATE;
+use sia_commands::{Call, Kind, Outcome, Reply, Step};
 use sia_rhp::Answer;
 use std::alloc::{AllocError, Global};
 

@@ -6,17 +6,14 @@ ghost use Rattle.sia_ledger.specs.Refusal.{refusal, set_refusal};
 ghost use Rattle.sia_records.specs.declared.host_record.HostRecord.TheVariants as records;
 ghost use Rattle.sia_types.specs.declared.block.Block.{Block as Mined};
 ghost use Rattle.sia_rules.specs.Answers.{block_told};
-ghost use Rattle.sia_host.specs.declared.event.Outcome.TheVariants as outcome;
-ghost use Rattle.sia_host.specs.declared.reply.Reply.TheVariants as reply;
+ghost use Rattle.sia_commands.specs.declared.event.Outcome.TheVariants as outcome;
+ghost use Rattle.sia_commands.specs.declared.reply.Reply.TheVariants as reply;
 ghost use Rattle.sia_host.specs.Answered.{IsReaction, answered, record_payload};
 ghost use Rattle.sia_host.specs.Feeding.{apply_reaction, apply_given, no_session, revert_reaction, rule_number as rule_number_so};
 
-use crate::call::Call;
-use crate::codes::STORE_FULL;
-use crate::event::{Kind, Outcome};
 use crate::host_core::Core;
-use crate::reply::Reply;
-use crate::step::{Room, Step};
+use sia_commands::codes::STORE_FULL;
+use sia_commands::{Call, Kind, Outcome, Reply, Room, Step};
 use sia_edge::SigCheck;
 use sia_encoding::{Blob, Item, Steps};
 use sia_journal::RecordBuf;
@@ -100,7 +97,7 @@ impl Core {
     }
 
     // The answer to a block for which the journal has room.
-    #[tactic(auto, unfolding(crate::specs::State::with_record))]
+    #[tactic(auto, unfolding(sia_kept::specs::State::with_record))]
     fn apply_fit<C: SigCheck>(
         &mut self,
         alloc: Global,
@@ -146,7 +143,7 @@ impl Core {
     }
 
     /// The last block is dropped.
-    #[tactic(auto, unfolding(crate::specs::State::with_record))]
+    #[tactic(auto, unfolding(sia_kept::specs::State::with_record))]
     pub(crate) fn revert(
         &mut self,
         alloc: Global,

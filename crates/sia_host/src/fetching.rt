@@ -1,24 +1,19 @@
 //! Sectors that a session asks for, before it prepares a write or a read.
 ghost use Rattle.std.specs.Prelude.{◌≡◌, [], None, Ok, IfOk, OnErr};
 ghost use Rattle.sia_encoding.specs.Answer.{Answers as Tells, itself};
-ghost use Rattle.sia_host.specs.declared.event.Outcome.TheVariants as outcome;
-ghost use Rattle.sia_host.specs.declared.reply.Reply.TheVariants as reply;
+ghost use Rattle.sia_commands.specs.declared.event.Outcome.TheVariants as outcome;
+ghost use Rattle.sia_commands.specs.declared.reply.Reply.TheVariants as reply;
 ghost use Rattle.sia_host.specs.Answered.{IsReaction, fetching, worked};
-ghost use Rattle.sia_host.specs.Fetching.{FitsNext, FitsReply, fetch_reaction, fetched_by_place, fetched_by_root, filled_next as filled_next_so, filled_reply, slot_wanted as slot_wanted_so};
+ghost use Rattle.sia_host.specs.Fetching.{fetch_reaction, fetched_by_place, fetched_by_root, slot_wanted as slot_wanted_so};
 ghost use Rattle.sia_host.specs.Refusals.{code_told};
 ghost use Rattle.sia_host.specs.Writing.{slot_with as slot_with_so};
 
-use crate::call::Call;
-use crate::codes::{BAD_ACTION, NO_SECTOR};
-use crate::event::{Kind, Outcome};
 use crate::host_core::Core;
-use crate::kept::KeptContract;
-use crate::out_job::OutJob;
 use crate::refusal::Refusal;
-use crate::reply::Reply;
-use crate::step::Step;
-use crate::want::Want;
 use sia_blake::Hash;
+use sia_commands::codes::{BAD_ACTION, NO_SECTOR};
+use sia_commands::{Call, Kind, OutJob, Outcome, Reply, Step, Want};
+use sia_kept::KeptContract;
 use sia_types::{Blob, List};
 use std::alloc::{AllocError, Global};
 
@@ -110,32 +105,4 @@ fn slot_with(contract: &KeptContract, root: &Hash) -> Option<u64>
     ensures { result ≡ slot_with_so contract.now root.now }
 {
     contract.sectors.slot_with(root)
-}
-
-/// A reply with the bytes of the slot that its step has in `fetch`. It takes no memory.
-pub fn fill_reply(reply: Reply, sector: Vec<u8>) -> Reply
-    requires { FitsReply reply sector.items }
-    ensures { result ≡ filled_reply reply sector.items }
-{
-    match reply {
-        Reply::Next(job) => Reply::Next(filled_next(job, Blob::from_vec(sector))),
-        Reply::Sector(_) => Reply::Sector(Blob::from_vec(sector)),
-        Reply::Entered { session, challenge } => Reply::Entered { session, challenge },
-        Reply::Applied => Reply::Applied,
-        Reply::Refused(fault) => Reply::Refused(fault),
-        Reply::NoBlock => Reply::NoBlock,
-        Reply::Said(answer) => Reply::Said(answer),
-        Reply::Error { code } => Reply::Error { code },
-    }
-}
-
-// A job that may be there, with the bytes of the sector that it lacks.
-fn filled_next(job: Option<OutJob>, sector: Blob) -> Option<OutJob>
-    requires { FitsNext job sector }
-    ensures { result ≡ filled_next_so job sector }
-{
-    match job {
-        None => None,
-        Some(job) => Some(job.filled(sector)),
-    }
 }

@@ -1,28 +1,25 @@
 //! Contracts that are formed.
-ghost use Rattle.std.specs.Prelude.{◌≡◌, false, None, if◌then◌else◌, IfOk, OnErr};
+ghost use Rattle.std.specs.Prelude.{◌≡◌, false, None, if◌then◌else◌, IfOk, OnErr, [], All};
 ghost use Rattle.sia_encoding.specs.Firsts.{broken};
 ghost use Rattle.sia_ids.specs.Transactions.{contract_id as id_of};
 ghost use Rattle.sia_records.specs.declared.host_record.HostRecord.TheVariants as records;
-ghost use Rattle.sia_host.specs.declared.codes.TheConstants.{BAD_SIGNATURE as bad_signature, STORE_FULL as store_full};
+ghost use Rattle.sia_commands.specs.declared.codes.TheConstants.{BAD_SIGNATURE as bad_signature, STORE_FULL as store_full};
 ghost use Rattle.sia_host.specs.Answered.{Gives, IsReaction, record_payload};
 ghost use Rattle.sia_host.specs.Forming.{FormsSigned, IsFormed, IsFormSigned, form_kept, form_unless, is_formed, keeping_fault as keeping_so};
-ghost use Rattle.sia_host.specs.State.{is_among};
+ghost use Rattle.sia_types.specs.declared.transaction.Transaction.{Transaction as Mined};
+ghost use Rattle.sia_kept.specs.State.{IsStored, formed_by, is_among};
 
-use crate::call::Call;
-use crate::codes::{BAD_CONTRACT, BAD_SIGNATURE, STORE_FULL};
-use crate::event::{Kind, Outcome};
 use crate::feeding::{frame, judge_set, lacks_room};
 use crate::host_core::Core;
-use crate::kept::{KeptContract, push_kept};
 use crate::proposals::with_additions;
 use crate::refusal::Refusal;
-use crate::reply::Reply;
-use crate::signing::sign_inputs;
-use crate::step::{Room, Step};
+use sia_commands::codes::{BAD_CONTRACT, BAD_SIGNATURE, STORE_FULL};
+use sia_commands::{Call, Kind, Outcome, Reply, Room, Step};
 use sia_edge::{SigCheck, Signer};
 use sia_forms::{Additions, finish};
 use sia_ids::contract_id;
 use sia_journal::RecordBuf;
+use sia_kept::{KeptContract, push_kept, sign_inputs};
 use sia_ledger::BlockFault;
 use sia_records::HostRecord;
 use sia_rhp::{Answer, FormRequest};
@@ -104,6 +101,7 @@ impl Core {
         signer: &G,
     ) -> Result<Step, AllocError>
         requires new { is_formed self.old request.transaction added ≡ false }
+        requires stored { (whole : Mined) → whole.contracts ≡ request.transaction.contracts → All (IsStored self.old.settings.sector) (formed_by self.old.settings.host_key request.renter_key whole [] whole.contracts) }
         ensures gives { IfOk result (λ step. Gives (FormsSigned C.verdict (G.Makes (G.public_key signer.now)) self.old room.now call request renter added) self.old step self.new) }
         ensures kept { OnErr result (self.new ≡ self.old) }
     {
@@ -130,6 +128,7 @@ impl Core {
         check: &C,
     ) -> Result<Step, AllocError>
         requires new { is_among (id_of tx 0) self.old.state.contracts ≡ false }
+        requires stored { All (IsStored self.old.settings.sector) (formed_by self.old.settings.host_key renter_key tx [] tx.contracts) }
         ensures gives { IfOk result (λ step. IsReaction self.old (form_kept C.verdict self.old room.now call renter_key tx signatures) step self.new) }
         ensures kept { OnErr result (self.new ≡ self.old) }
     {
@@ -142,7 +141,7 @@ impl Core {
     }
 
     // A formation is recorded.
-    #[tactic(auto, unfolding(crate::specs::State::with_record))]
+    #[tactic(auto, unfolding(sia_kept::specs::State::with_record))]
     fn record_formed(
         &mut self,
         alloc: Global,
@@ -154,6 +153,7 @@ impl Core {
     ) -> Result<Step, AllocError>
         requires framed { framed ≡ record_payload (records.Formed renter_key.now tx) }
         requires new { is_among (id_of tx 0) self.old.state.contracts ≡ false }
+        requires stored { All (IsStored self.old.settings.sector) (formed_by self.old.settings.host_key renter_key.now tx [] tx.contracts) }
         ensures gives { IfOk result (λ step. IsReaction self.old (form_unless self.old call renter_key.now tx signatures None) step self.new) }
         ensures kept { OnErr result (self.new ≡ self.old) }
     {

@@ -4,24 +4,19 @@ ghost use Rattle.sia_encoding.specs.Answer.{Answers as Tells, itself, unless};
 ghost use Rattle.sia_ledger.specs.Chain.{begun};
 ghost use Rattle.sia_ledger.specs.Genesis.{genesis_refusal};
 ghost use Rattle.sia_ledger.specs.Holdings.{sums_of, tip as tip_so};
-ghost use Rattle.sia_host.specs.declared.event.Outcome.TheVariants as outcome;
-ghost use Rattle.sia_host.specs.declared.reply.Reply.TheVariants as reply;
-ghost use Rattle.sia_host.specs.State.{Kept, first_state};
+ghost use Rattle.sia_commands.specs.declared.event.Outcome.TheVariants as outcome;
+ghost use Rattle.sia_commands.specs.declared.reply.Reply.TheVariants as reply;
+ghost use Rattle.sia_kept.specs.State.{Kept, first_state};
 ghost use Rattle.sia_host.specs.Answered.{IsReaction, Host, answered, contract_now, event_of, held_now, idle_now, refused, settings_now};
 ghost use Rattle.sia_host.specs.Beginning.{core_told};
 ghost use Rattle.sia_host.specs.Refusals.{code_told};
 
-use crate::call::Call;
-use crate::codes::{NO_CONTRACT, WRONG_STATE};
 use crate::config::{CoreConfig, CoreFault};
-use crate::event::{Event, Kind, Outcome};
-use crate::kept::{KeptContract, find_contract};
-use crate::log::Log;
 use crate::refusal::Refusal;
-use crate::reply::Reply;
-use crate::session::Session;
-use crate::step::Step;
 use sia_blake::Hash;
+use sia_commands::codes::{NO_CONTRACT, WRONG_STATE};
+use sia_commands::{Call, Event, Kind, Outcome, Reply, Step};
+use sia_kept::{KeptContract, Log, Session, find_contract};
 use sia_ledger::{GenesisFault, Ledger, Params, Sums};
 use sia_types::{List, Settings};
 use std::alloc::{AllocError, Global};
@@ -41,7 +36,7 @@ pub struct Core {
 
 impl Model for Core {
     ghost use Rattle.sia_host.specs.Answered.{Host};
-    ghost use Rattle.sia_host.specs.State.{IsSound};
+    ghost use Rattle.sia_kept.specs.State.{IsSound};
 
     ghost Value = { Host };
 

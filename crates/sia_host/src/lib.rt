@@ -36,46 +36,27 @@
 //! storage proofs, sia_price for what is paid, sia_types, sia_rules and sia_encoding for what all of these say.
 #![tactic(auto)]
 
-mod call;
-pub mod codes;
-mod command;
 mod config;
-mod diffing;
 mod entering;
-mod event;
 mod feeding;
 mod fetching;
 mod forming;
 mod host_core;
-mod kept;
 pub mod laws;
 mod locking;
-mod log;
-mod out_job;
 mod outbox;
 mod paying;
 mod proposals;
 mod reading;
 mod refusal;
-mod reply;
 mod revising;
-mod sectors;
-mod session;
-mod signing;
-mod step;
 mod stepping;
 mod waiting;
-mod want;
 mod writing;
 
-pub use call::Call;
-pub use command::Command;
 pub use config::{CoreConfig, CoreFault};
-pub use event::{Event, Kind, Outcome};
-pub use fetching::fill_reply;
 pub use host_core::Core;
-pub use out_job::{AskedProof, OutJob, finish_job};
-pub use reply::Reply;
-pub use session::{Effect, Session};
-pub use step::{PutJob, Room, Step};
-pub use want::Want;
+pub use sia_commands::{
+    AskedProof, Call, Command, Event, Kind, OutJob, Outcome, PutJob, Reply, Room, Step, Want,
+    codes, fill_reply, finish_job,
+};

@@ -3,20 +3,17 @@ ghost use Rattle.std.specs.Prelude.{◌≡◌, ◌++◌, codes, None, Some, Ok, 
 ghost use Rattle.sia_blake.specs.Blake2b.{blake2b_256};
 ghost use Rattle.sia_encoding.specs.Answer.{Answers as Tells};
 ghost use Rattle.sia_host.specs.Answered.{IsReaction, holder_now};
-ghost use Rattle.sia_host.specs.State.{Kept};
+ghost use Rattle.sia_kept.specs.State.{Kept};
 ghost use Rattle.sia_host.specs.Locking.{lock_acquired, lock_reaction, lock_given, lock_hash as lock_hash_so, lock_judged as lock_judged_so, lock_missed, unlock_reaction};
 ghost use Rattle.sia_host.specs.Refusals.{code_told};
 
-use crate::call::Call;
-use crate::codes::{BAD_SIGNATURE, WRONG_STATE};
-use crate::event::{Kind, Outcome};
 use crate::host_core::Core;
-use crate::kept::KeptContract;
 use crate::refusal::Refusal;
-use crate::reply::Reply;
-use crate::step::Step;
 use sia_blake::{Hash, Hasher};
+use sia_commands::codes::{BAD_SIGNATURE, WRONG_STATE};
+use sia_commands::{Call, Kind, Outcome, Reply, Step};
 use sia_edge::SigCheck;
+use sia_kept::KeptContract;
 use sia_rhp::{Answer, LockAnswer, LockRequest};
 use sia_types::{Item, List};
 use std::alloc::{AllocError, Global};

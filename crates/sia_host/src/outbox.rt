@@ -1,25 +1,20 @@
 //! The next contract for which something is to be mined is handed out.
-ghost use Rattle.std.specs.Prelude.{◌≡◌, [], ◌≤◌, Some, map, vec_capacity, option_copied, slice_index_or, IfOk, IfSome, OnErr};
-ghost use Rattle.sia_records.specs.Stored.{no_sector};
-ghost use Rattle.sia_host.specs.Paying.{revision_alone};
-ghost use Rattle.sia_host.specs.Writing.{root_in};
+ghost use Rattle.std.specs.Prelude.{◌≡◌, [], ◌≤◌, ◌+◌, Some, map, vec_capacity, option_copied, slice_index_or, IfOk, IfSome, IsTrue, OnErr};
 ghost use Rattle.std.specs.Option.{option_and_then, option_map};
+ghost use Rattle.sia_ledger.specs.Chain.{height};
+ghost use Rattle.sia_records.specs.Stored.{no_sector};
+ghost use Rattle.sia_commands.specs.OutJobs.{IsAsked};
+ghost use Rattle.sia_kept.specs.State.{IsStored, root_in};
 ghost use Rattle.sia_host.specs.Answered.{Host, IsReaction};
-ghost use Rattle.sia_host.specs.Jobs.{due_contracts, next_after, renewal_of as renewal_so, renews as renews_so, signed_alone as signed_so, stale_contracts, stale_job as stale_job_so};
-ghost use Rattle.sia_host.specs.OutJobs.{IsAsked};
-ghost use Rattle.sia_host.specs.Outbox.{asked_now as asked_now_so, asking as asking_so, due_handed, due_asked as due_asked_so, due_reaction, stale_of, stale_reaction};
+ghost use Rattle.sia_host.specs.Jobs.{due_contracts, is_due, is_due_by, next_after, renewal_of as renewal_so, renews as renews_so, signed_alone as signed_so, stale_contracts, stale_job as stale_job_so, trigger_of};
+ghost use Rattle.sia_host.specs.Outbox.{asked_by as asked_by_so, asking as asking_so, due_handed, due_of as due_of_so, due_reaction, stale_of, stale_reaction};
 
-use crate::call::Call;
-use crate::event::{Kind, Outcome};
 use crate::host_core::Core;
-use crate::kept::KeptContract;
-use crate::out_job::{AskedProof, OutJob};
-use crate::reply::Reply;
-use crate::sectors::{Sector, Sectors};
-use crate::signing::whole_signature;
-use crate::step::Step;
+use crate::revising::revision_alone;
 use sia_blake::Hash;
-use sia_types::{Blob, Item, List, Revision, Transaction};
+use sia_commands::{AskedProof, Call, Kind, OutJob, Outcome, Reply, Step};
+use sia_kept::{KeptContract, Sector, Sectors, whole_signature};
+use sia_types::{Blob, List, Revision, Terms, Transaction};
 use std::alloc::{AllocError, Global};
 
 /// A stale contract, and what it is to be mined by.
@@ -131,23 +126,26 @@ impl Core {
 
     // The next due contract, with the storage proof that is asked for.
     fn due_after(&self, alloc: Global, id: &Hash, first: bool) -> Result<Option<Due>, AllocError>
-        ensures exact { IfOk result (λ due. due ≡ option_and_then (due_asked_so self.now) (next_after id.now first (due_contracts self.now))) }
+        ensures exact { IfOk result (λ due. due ≡ option_and_then (due_of_so self.now) (next_after id.now first (due_contracts self.now))) }
         ensures ready { IfOk result (λ due. IfSome due (λ d. IsAsked d.asked)) }
     {
         match self.next_due_contract(alloc, id, first)? {
             None => Ok(None),
-            Some(contract) => self.due_asked(alloc, contract),
+            Some(contract) => self.due_of(alloc, contract),
         }
     }
 
-    // A due contract with the storage proof that is asked for, if one can be.
-    fn due_asked(&self, alloc: Global, contract: &KeptContract) -> Result<Option<Due>, AllocError>
-        ensures exact { IfOk result (λ due. due ≡ due_asked_so self.now contract.now) }
+    // A due contract with the storage proof that is asked for.
+    fn due_of(&self, alloc: Global, contract: &KeptContract) -> Result<Option<Due>, AllocError>
+        requires due { IsTrue (is_due self.now contract.now) }
+        requires stored { IsStored self.now.settings.sector contract.now }
+        ensures exact { IfOk result (λ due. due ≡ due_of_so self.now contract.now) }
         ensures ready { IfOk result (λ due. IfSome due (λ d. IsAsked d.asked)) }
     {
-        let Some(asked) = self.asked_now(alloc, contract)? else {
+        let Some(terms) = self.ledger.terms(alloc, &contract.id)? else {
             return Ok(None);
         };
+        let asked = self.asked_by(alloc, contract, &terms)?;
         let slot = slot_at(&contract.sectors, asked.place);
         let contract = contract.id;
         Ok(Some(Due {
@@ -157,23 +155,32 @@ impl Core {
         }))
     }
 
-    // The storage proof that is asked for of a contract, if it runs and one can be.
-    fn asked_now(
+    // The storage proof that is asked for of a contract that is due by these terms.
+    fn asked_by(
         &self,
         alloc: Global,
         contract: &KeptContract,
-    ) -> Result<Option<AskedProof>, AllocError>
-        ensures exact { IfOk result (λ asked. asked ≡ asked_now_so self.now contract.now) }
-        ensures ready { IfOk result (λ asked. IfSome asked IsAsked) }
+        terms: &Terms,
+    ) -> Result<AskedProof, AllocError>
+        requires due { IsTrue (is_due_by self.now contract.now terms.now) }
+        requires stored { IsStored self.now.settings.sector contract.now }
+        ensures exact { IfOk result (λ asked. asked ≡ asked_by_so self.now contract.now terms.now) }
+        ensures ready { IfOk result (λ asked. IsAsked asked) }
     {
-        let Some(terms) = self.ledger.terms(alloc, &contract.id)? else {
-            return Ok(None);
-        };
-        let Some(trigger) = self.ledger.block_at(terms.start.saturating_sub(1)) else {
-            return Ok(None);
-        };
+        let trigger = self.trigger(terms);
         let roots = copied_roots(alloc, contract.sectors.as_slice())?;
         Ok(AskedProof::of(&contract.id, roots, self.settings.sector, &trigger))
+    }
+
+    // The block before a window that the chain has come to.
+    fn trigger(&self, terms: &Terms) -> Hash
+        requires { terms.now.start ≤ height self.now.state.chain + 1 }
+        ensures { result ≡ trigger_of self.now terms.now }
+    {
+        let Some(trigger) = self.ledger.block_at(terms.start.saturating_sub(1)) else {
+            unreachable!()
+        };
+        trigger
     }
 }
 
@@ -261,7 +268,7 @@ fn signed_alone(
 ) -> Result<Transaction, AllocError>
     ensures { IfOk result (λ tx. tx ≡ signed_so revision.now signatures.now) }
 {
-    let mut tx = alone(alloc, revision.copy(alloc)?)?;
+    let mut tx = revision_alone(alloc, revision)?;
     let renter = signature_at(alloc, signatures, 0)?;
     tx.signatures
         .push(whole_signature(alloc, &revision.parent, 0, renter))?;
@@ -279,24 +286,4 @@ fn signature_at(alloc: Global, signatures: &List<Blob>, place: usize) -> Result<
         None => Ok(Blob::new(alloc)),
         Some(bytes) => bytes.copy(alloc),
     }
-}
-
-// The transaction that has a revision alone.
-fn alone(alloc: Global, revision: Revision) -> Result<Transaction, AllocError>
-    ensures { IfOk result (λ tx. tx ≡ revision_alone revision) }
-{
-    let mut revisions = List::new(alloc);
-    revisions.push(revision)?;
-    Ok(Transaction {
-        coin_inputs: List::new(alloc),
-        coin_outputs: List::new(alloc),
-        contracts: List::new(alloc),
-        revisions,
-        proofs: List::new(alloc),
-        fund_inputs: List::new(alloc),
-        fund_outputs: List::new(alloc),
-        fees: List::new(alloc),
-        notes: List::new(alloc),
-        signatures: List::new(alloc),
-    })
 }

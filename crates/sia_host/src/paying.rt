@@ -4,10 +4,10 @@ ghost use Rattle.sia_encoding.specs.Answer.{Answers as Tells};
 ghost use Rattle.sia_host.specs.Paying.{holding as holding_so, is_late as is_late_so, is_low as is_low_so, open_now, unpaid as unpaid_so, was_cleared as was_cleared_so};
 ghost use Rattle.sia_host.specs.Refusals.{code_told};
 
-use crate::codes::{BAD_PAYMENT, CLEARED, LOW_REVISION, TOO_LATE, WRONG_STATE};
 use crate::host_core::Core;
-use crate::kept::{KeptContract, find_contract};
 use crate::refusal::Refusal;
+use sia_commands::codes::{BAD_PAYMENT, CLEARED, LOW_REVISION, TOO_LATE, WRONG_STATE};
+use sia_kept::{KeptContract, find_contract};
 use sia_price::{Priced, check_payment, cost, duration};
 
 impl Core {

@@ -6,13 +6,13 @@ ghost use Rattle.sia_host.specs.Forming.{AreHosts, form_judged, form_terms as fo
 ghost use Rattle.sia_host.specs.Proposals.{Funds, Proposes};
 ghost use Rattle.sia_host.specs.Refusals.{code_told};
 
-use crate::codes::{BAD_CONTRACT, NO_FUNDS};
 use crate::host_core::Core;
-use crate::kept::{KeptContract, find_contract};
 use crate::refusal::Refusal;
 use sia_blake::Hash;
+use sia_commands::codes::{BAD_CONTRACT, NO_FUNDS};
 use sia_forms::{Additions, FormFault, add_host_part, check_form, finish};
 use sia_ids::contract_id;
+use sia_kept::{KeptContract, find_contract};
 use sia_rhp::FormRequest;
 use sia_types::{Coin, Item, List, Transaction};
 use std::alloc::{AllocError, Global};

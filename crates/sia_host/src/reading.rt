@@ -1,26 +1,23 @@
 //! Roots of sectors that a session reads.
-ghost use Rattle.std.specs.Prelude.{◌≡◌, ◌+◌, ◌<◌, ◌≤◌, ◌∷◌, [], length, nat_lt, IfOk, OnErr};
+ghost use Rattle.std.specs.Prelude.{◌≡◌, ◌+◌, ◌<◌, ◌≤◌, ◌∷◌, [], length, nat_lt, Some, IfOk, OnErr};
 ghost use Rattle.sia_encoding.specs.Answer.{Answers as Tells};
 ghost use Rattle.sia_range.specs.Ranges.{part_between, roots_outside};
 ghost use Rattle.sia_rhp.specs.declared.answer.Answer.TheVariants as answer;
-ghost use Rattle.sia_host.specs.declared.reply.Reply.TheVariants as reply;
+ghost use Rattle.sia_commands.specs.declared.reply.Reply.TheVariants as reply;
 ghost use Rattle.sia_host.specs.Answered.{Gives, no_work};
 ghost use Rattle.sia_host.specs.Paying.{IsRevised, open_now, paid_revision as paid_revision_so, unrefused};
 ghost use Rattle.sia_host.specs.Reading.{AreRoots, is_outside as is_outside_so, roots_fault as roots_fault_so, roots_payment};
 ghost use Rattle.sia_host.specs.Refusals.{code_told};
-ghost use Rattle.sia_host.specs.Writing.{roots_of};
+ghost use Rattle.sia_kept.specs.State.{IsStored, Kept, contract_among, roots_of};
 
-use crate::call::Call;
-use crate::codes::BAD_RANGE;
-use crate::event::Kind;
 use crate::host_core::Core;
-use crate::kept::KeptContract;
 use crate::refusal::Refusal;
-use crate::reply::Reply;
-use crate::revising::{Party, SignedRevision, paid_revision, sign_revision};
-use crate::step::{Room, Step};
+use crate::revising::{Party, paid_revision, sign_revision};
 use sia_blake::Hash;
+use sia_commands::codes::BAD_RANGE;
+use sia_commands::{Call, Kind, Reply, Room, Step};
 use sia_edge::{SigCheck, Signer};
+use sia_kept::{KeptContract, SignedRevision};
 use sia_price::Priced;
 use sia_range::prove_nodes;
 use sia_rhp::{Answer, PaidRoots, RootsAnswer};
@@ -92,6 +89,7 @@ impl Core {
         check: &C,
         signer: &G,
     ) -> Result<Step, AllocError>
+        requires stores { (c : Kept) → contract_among revision.parent self.old.state.contracts ≡ Some c → IsStored self.old.settings.sector (record c { newest = revision }) }
         ensures gives { IfOk result (λ step. Gives (IsRevised C.verdict (G.Makes (G.public_key signer.now)) self.old room.now call party.id party.renter_key revision renter [] (λ host. reply.Said (answer.Roots (record { signature = host; roots = told.roots; hashes = told.hashes }))) no_work) self.old step self.new) }
         ensures kept { OnErr result (self.new ≡ self.old) }
     {
@@ -102,6 +100,7 @@ impl Core {
             revision,
             renter,
             host,
+            changes: List::new(alloc),
         };
         let reply = Reply::Said(Answer::Roots(RootsAnswer {
             signature,

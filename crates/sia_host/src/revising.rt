@@ -1,32 +1,27 @@
 //! Revisions that pay: both parties sign them, and they are recorded.
-ghost use Rattle.std.specs.Prelude.{◌≡◌, ◌<◌, [], ◌∷◌, not, length, slice_set, slice_index_or, Some, IfOk, OnOk, OnErr};
-ghost use Rattle.std.specs.Str.{bytes_eq};
-ghost use Rattle.std.specs.List.{position};
+ghost use Rattle.std.specs.Prelude.{◌≡◌, not, map, length, Some, IfOk, IsTrue, OnErr};
 ghost use Rattle.sia_encoding.specs.Firsts.{broken, ◌or_else◌};
+ghost use Rattle.sia_diff.specs.DiffSteps.{is_fit};
 ghost use Rattle.sia_records.specs.declared.host_record.HostRecord.TheVariants as records;
-ghost use Rattle.sia_host.specs.declared.codes.TheConstants.{BAD_SIGNATURE as bad_signature, STORE_FULL as store_full};
-ghost use Rattle.sia_host.specs.declared.event.Outcome.TheVariants as outcome;
+ghost use Rattle.sia_records.specs.Stored.{step_of};
+ghost use Rattle.sia_commands.specs.declared.codes.TheConstants.{BAD_SIGNATURE as bad_signature, STORE_FULL as store_full};
+ghost use Rattle.sia_commands.specs.declared.event.Outcome.TheVariants as outcome;
 ghost use Rattle.sia_host.specs.Answered.{IsReaction, no_work, record_payload, worked};
 ghost use Rattle.sia_host.specs.Paying.{paid_revision as paid_revision_so, revised_unless, revising_fault as revising_fault_so, revision_alone as revision_alone_so, revision_hash as revision_hash_so, signs_revision as signs_revision_so};
-ghost use Rattle.sia_host.specs.State.{AreApart, Kept, changed_at, revised_contract};
+ghost use Rattle.sia_kept.specs.State.{IsStored, Kept, contract_among, revised_contract};
 
-use crate::call::Call;
-use crate::codes::{BAD_SIGNATURE, STORE_FULL};
-use crate::event::Outcome;
 use crate::feeding::{frame, lacks_room};
 use crate::host_core::Core;
-use crate::kept::KeptContract;
-use crate::reply::Reply;
-use crate::signing::whole_hash;
-use crate::step::{Room, Step};
 use sia_blake::Hash;
+use sia_commands::codes::{BAD_SIGNATURE, STORE_FULL};
+use sia_commands::{Call, Outcome, Reply, Room, Step};
 use sia_edge::{SigCheck, Signer};
 use sia_journal::RecordBuf;
+use sia_kept::{KeptContract, SignedRevision, revise_kept, whole_hash};
 use sia_price::with_terms;
 use sia_records::HostRecord;
 use sia_types::{Blob, Item, List, Revision, Transaction};
 use std::alloc::{AllocError, Global};
-use std::mem::replace;
 
 /// A contract that is to be revised, by its identifier and its renter's key.
 #[derive(Clone, Copy)]
@@ -37,19 +32,8 @@ pub(crate) struct Party {
     pub renter_key: [u8; 32],
 }
 
-/// A revision with the signatures of both parties.
-#[derive(Drop)]
-pub(crate) struct SignedRevision {
-    /// The revision.
-    pub revision: Revision,
-    /// The renter's signature of it.
-    pub renter: Blob,
-    /// The host's signature of it.
-    pub host: Blob,
-}
-
 impl Core {
-    /// Answers a request by a revision that changes no sector, or by why the revision isn't kept.
+    /// Answers a request by a revision, or by why the revision isn't kept.
     pub(crate) fn revise<C: SigCheck>(
         &mut self,
         alloc: Global,
@@ -60,7 +44,9 @@ impl Core {
         reply: Reply,
         check: &C,
     ) -> Result<Step, AllocError>
-        ensures gives { IfOk result (λ step. IsReaction self.old (revised_unless self.old call party.id reply (records.Revised signed.revision signed.renter signed.host []) no_work (revising_fault_so C.verdict room.now party.renter_key signed.revision signed.renter (records.Revised signed.revision signed.renter signed.host []))) step self.new) }
+        requires fit { (c : Kept) → contract_among signed.revision.parent self.old.state.contracts ≡ Some c → IsTrue (is_fit (length c.sectors) (map step_of signed.changes)) }
+        requires stores { (c : Kept) → contract_among signed.revision.parent self.old.state.contracts ≡ Some c → IsStored self.old.settings.sector (revised_contract signed.revision signed.renter signed.host signed.changes c) }
+        ensures gives { IfOk result (λ step. IsReaction self.old (revised_unless self.old call party.id reply (records.Revised signed.revision signed.renter signed.host signed.changes) no_work (revising_fault_so C.verdict room.now party.renter_key signed.revision signed.renter (records.Revised signed.revision signed.renter signed.host signed.changes))) step self.new) }
         ensures kept { OnErr result (self.new ≡ self.old) }
     {
         let accepted = signs_revision(alloc, &party.renter_key, &signed, check)?;
@@ -72,7 +58,7 @@ impl Core {
     }
 
     // A revision is recorded.
-    #[tactic(auto, unfolding(crate::specs::State::with_record))]
+    #[tactic(auto, unfolding(sia_kept::specs::State::with_record))]
     fn record_revised(
         &mut self,
         alloc: Global,
@@ -82,8 +68,10 @@ impl Core {
         framed: RecordBuf,
         reply: Reply,
     ) -> Result<Step, AllocError>
-        requires { framed ≡ record_payload (records.Revised signed.revision signed.renter signed.host []) }
-        ensures gives { IfOk result (λ step. IsReaction self.old (worked self.old call (Some id) outcome.Fine reply (Some (records.Revised signed.revision signed.renter signed.host [])) no_work) step self.new) }
+        requires framed { framed ≡ record_payload (records.Revised signed.revision signed.renter signed.host signed.changes) }
+        requires fit { (c : Kept) → contract_among signed.revision.parent self.old.state.contracts ≡ Some c → IsTrue (is_fit (length c.sectors) (map step_of signed.changes)) }
+        requires stores { (c : Kept) → contract_among signed.revision.parent self.old.state.contracts ≡ Some c → IsStored self.old.settings.sector (revised_contract signed.revision signed.renter signed.host signed.changes c) }
+        ensures gives { IfOk result (λ step. IsReaction self.old (worked self.old call (Some id) outcome.Fine reply (Some (records.Revised signed.revision signed.renter signed.host signed.changes)) no_work) step self.new) }
         ensures kept { OnErr result (self.new ≡ self.old) }
     {
         self.log.reserve()?;
@@ -143,8 +131,8 @@ fn revision_hash(alloc: Global, revision: &Revision, index: u64) -> Result<Hash,
     whole_hash(alloc, &mut tx, &revision.parent, index)
 }
 
-// The transaction that has a revision alone. The error is want of memory.
-fn revision_alone(alloc: Global, revision: &Revision) -> Result<Transaction, AllocError>
+/// The transaction that has a revision alone. The error is want of memory.
+pub(crate) fn revision_alone(alloc: Global, revision: &Revision) -> Result<Transaction, AllocError>
     ensures { IfOk result (λ tx. tx ≡ revision_alone_so revision.now) }
 {
     let mut revisions = List::new(alloc);
@@ -163,15 +151,15 @@ fn revision_alone(alloc: Global, revision: &Revision) -> Result<Transaction, All
     })
 }
 
-// Frames the record of a revision that changes no sector. The error is want of memory.
+// Frames the record of a revision. The error is want of memory.
 fn frame_revised(alloc: Global, signed: &SignedRevision) -> Result<RecordBuf, AllocError>
-    ensures { IfOk result (λ framed. framed ≡ record_payload (records.Revised signed.now.revision signed.now.renter signed.now.host [])) }
+    ensures { IfOk result (λ framed. framed ≡ record_payload (records.Revised signed.now.revision signed.now.renter signed.now.host signed.now.changes)) }
 {
     let made = HostRecord::Revised {
         revision: signed.revision.copy(alloc)?,
         renter: signed.renter.copy(alloc)?,
         host: signed.host.copy(alloc)?,
-        changes: List::new(alloc),
+        changes: Item::copy(&signed.changes, alloc)?,
     };
     frame(alloc, &made)
 }
@@ -187,77 +175,4 @@ fn revising_fault(full: bool, accepted: bool) -> Option<u64>
         return Some(BAD_SIGNATURE);
     }
     None
-}
-
-// The contract of a revision has it as its newest one, with its sectors as they were. The error is want of memory: then the
-// contracts stay.
-fn revise_kept(
-    alloc: Global,
-    contracts: &mut List<KeptContract>,
-    signed: SignedRevision,
-) -> Result<(), AllocError>
-    requires { AreApart contracts.old }
-    ensures ok { OnOk result (contracts.new ≡ changed_at signed.revision.parent (revised_contract signed.revision signed.renter signed.host []) contracts.old) }
-    ensures apart { OnOk result (AreApart contracts.new) }
-    ensures err { OnErr result (contracts.new ≡ contracts.old) }
-{
-    let SignedRevision {
-        revision,
-        renter,
-        host,
-    } = signed;
-    let signatures = both_signatures(alloc, renter, host)?;
-    revise_found(alloc, contracts, revision, signatures);
-    Ok(())
-}
-
-// The renter's signature and the host's. The error is want of memory.
-fn both_signatures(alloc: Global, renter: Blob, host: Blob) -> Result<List<Blob>, AllocError>
-    ensures { IfOk result (λ signatures. signatures ≡ renter ∷ host ∷ []) }
-{
-    let mut signatures = List::new(alloc);
-    signatures.push(renter)?;
-    signatures.push(host)?;
-    Ok(signatures)
-}
-
-// The contract of a revision, if it is there, has it as its newest one, with these signatures. It takes no memory.
-fn revise_found(
-    alloc: Global,
-    contracts: &mut List<KeptContract>,
-    revision: Revision,
-    signatures: List<Blob>,
-)
-    requires { AreApart contracts.old }
-    ensures { contracts.new ≡ changed_at revision.parent (λ c. record c { newest = revision; signatures = signatures }) contracts.old }
-{
-    match place_of(contracts, &revision.parent) {
-        None => {}
-        Some(place) => revise_at(alloc, contracts, place, revision, signatures),
-    }
-}
-
-// The contract at a place has this newest revision with these signatures. It takes no memory.
-fn revise_at(
-    alloc: Global,
-    contracts: &mut List<KeptContract>,
-    place: usize,
-    revision: Revision,
-    signatures: List<Blob>,
-)
-    requires { place < length contracts.old }
-    ensures { (d : Kept) → contracts.new ≡ slice_set contracts.old place (record (slice_index_or contracts.old place d) { newest = revision; signatures = signatures }) }
-{
-    let mut items = replace(contracts, List::new(alloc)).into_vec();
-    let contract = &mut items[place];
-    contract.newest = revision;
-    contract.signatures = signatures;
-    *contracts = List::from_vec(items);
-}
-
-// The place of the contract with an identifier.
-fn place_of(contracts: &List<KeptContract>, id: &Hash) -> Option<usize>
-    ensures { result ≡ position (λ (c : Kept). bytes_eq c.id id.now) contracts.now }
-{
-    contracts.as_slice().iter().position(|c| c.id == *id)
 }

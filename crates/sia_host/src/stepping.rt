@@ -3,9 +3,8 @@ ghost use Rattle.std.specs.Prelude.{◌≡◌, false, IfOk, OnErr};
 ghost use Rattle.sia_host.specs.Answered.{Gives};
 ghost use Rattle.sia_host.specs.Answers.{IsAnswer, is_leave};
 
-use crate::command::Command;
 use crate::host_core::Core;
-use crate::step::{Room, Step};
+use sia_commands::{Command, Room, Step};
 use sia_edge::{SigCheck, Signer};
 use std::alloc::{AllocError, Global};
 
@@ -41,9 +40,13 @@ impl Core {
             Command::Unlock => self.unlock(alloc, worker, session),
             Command::Fetch(want) => self.fetch(alloc, worker, session, want),
             Command::Write(write) => self.write(alloc, room, worker, session, write),
+            Command::WriteSign(_, _) => unreachable!(),
+            Command::Read(_) => unreachable!(),
             Command::Roots(request) => {
                 self.roots(alloc, room, worker, session, request, check, signer)
             }
+            Command::Renew(_) => unreachable!(),
+            Command::RenewSign(_, _) => unreachable!(),
             Command::Leave => Ok(self.leave(alloc, worker, session)),
             Command::Apply(block) => self.apply(alloc, room, worker, block, check),
             Command::Revert => self.revert(alloc, room, worker),

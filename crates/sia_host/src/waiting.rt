@@ -3,11 +3,11 @@ ghost use Rattle.std.specs.Prelude.{◌≡◌, ◌+◌, ◌&&◌, ◌||◌, nat_
 ghost use Rattle.sia_types.specs.declared.terms.Terms.{Terms as Agreed};
 ghost use Rattle.sia_host.specs.Jobs.{due_contracts, is_above as is_above_so, is_due as is_due_so, is_due_by, is_stale as is_stale_so, is_stale_by, next_after, stale_contracts};
 ghost use Rattle.sia_host.specs.Least.{lesser as lesser_so};
-ghost use Rattle.sia_host.specs.State.{Kept};
+ghost use Rattle.sia_kept.specs.State.{Kept};
 
 use crate::host_core::Core;
-use crate::kept::KeptContract;
 use sia_blake::Hash;
+use sia_kept::KeptContract;
 use sia_types::Terms;
 use std::alloc::{AllocError, Global};
 

@@ -9,16 +9,12 @@ ghost use Rattle.sia_host.specs.Paying.{open_now, unpaid as unpaid_so, unrefused
 ghost use Rattle.sia_host.specs.Refusals.{code_told};
 ghost use Rattle.sia_host.specs.Writing.{IsWritten, can_write as can_write_so, is_append as is_append_so, is_swap as is_swap_so, update_bytes as update_bytes_so, write_fault as write_fault_so, write_payment, write_price as write_price_so, write_proof as write_proof_so};
 
-use crate::call::Call;
-use crate::codes::{BAD_ACTION, STORE_FULL};
-use crate::diffing::{Rerooted, reroot};
-use crate::event::{Kind, Outcome};
 use crate::host_core::Core;
-use crate::kept::KeptContract;
 use crate::refusal::Refusal;
-use crate::reply::Reply;
-use crate::step::{Room, Step};
+use sia_commands::codes::{BAD_ACTION, STORE_FULL};
+use sia_commands::{Call, Kind, Outcome, Reply, Room, Step};
 use sia_diff::touched;
+use sia_kept::{KeptContract, Rerooted, reroot};
 use sia_price::Priced;
 use sia_records::PreparedWrite;
 use sia_rhp::{Action, Answer, WriteAnswer, WriteRequest};

@@ -1,9 +1,9 @@
 -- The contract was judged, so that the answer hangs on its holder alone.
 use Rattle.std.proofs.Common.{ℕ, Result, IfOk, subst, sym}
-use Rattle.sia_host.specs.declared.event.Kind.TheVariants as kind
+use Rattle.sia_commands.specs.declared.event.Kind.TheVariants as kind
 use Rattle.sia_host.specs.Answered.{IsReaction, holder_now}
 use Rattle.sia_host.specs.Locking.{lock_given}
-use Rattle.sia_host.specs.State.{Kept}
+use Rattle.sia_kept.specs.State.{Kept}
 use Rattle.sia_host.proofs.host_core.Core.lock.Goals as goal
 
 pub returns-in_ok-answer-in-Ok-clause-gives : goal.returns-in_ok-answer-in-Ok-clause-gives

@@ -3,7 +3,7 @@ use Rattle.std.specs.Prelude.{option_copied}
 use Rattle.std.specs.List.{filter}
 use Rattle.sia_host.specs.Jobs.{in_order, is_above, is_stale, next_after, stale_contracts}
 use Rattle.sia_host.specs.Least.{least_by}
-use Rattle.sia_host.specs.State.{Kept}
+use Rattle.sia_kept.specs.State.{Kept}
 use Rattle.sia_host.specs.Answered.{Host}
 use Rattle.sia_host.proofs.Walked.{walk_begins, walk_ends, walked_fit, walked_over}
 use Rattle.sia_host.proofs.host_core.Core.next_stale_contract.Goals as goal

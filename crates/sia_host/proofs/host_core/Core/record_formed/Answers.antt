@@ -1,17 +1,21 @@
--- The new contract's identifier isn't known, so the host stays sound.
-use Rattle.std.proofs.Common.{◌≡◌, false, subst, sym}
+-- The new contract's identifier isn't known, and it stores what it has, so the host stays sound.
+use Rattle.std.proofs.Common.{◌≡◌, false, [], All, subst, sym}
 use Rattle.sia_ids.specs.Transactions.{contract_id as id_of}
 use Rattle.sia_host.specs.Answered.{Host}
-use Rattle.sia_host.specs.State.{is_among}
-use Rattle.sia_host.proofs.Sound.{sound_formed}
+use Rattle.sia_kept.specs.State.{IsStored, formed_by, is_among}
+use Rattle.sia_kept.proofs.Sound.{sound_formed}
 use Rattle.sia_host.proofs.host_core.Core.record_formed.Goals as goal
 
 pub invariant_of-self-2 : goal.invariant_of-self-2
 invariant_of-self-2 c =
     sound_formed c.self.inside.settings.sector c.self.inside.settings.host_key c.args.renter_key.now c.args.tx c.self.inside.contracts c.push_kept.new.contracts c.in_ok-kept.kept c.self.invariant
-    (subst (λ (h : Host). is_among (id_of c.args.tx 0) h.state.contracts ≡ false) (sym c.self.view_is) c.requires.new) c.in_ok-kept.ensures c.in_ok-push_kept.ensures.ok
+    (subst (λ (h : Host). is_among (id_of c.args.tx 0) h.state.contracts ≡ false) (sym c.self.view_is) c.requires.new)
+    (subst (λ (h : Host). All (IsStored h.settings.sector) (formed_by h.settings.host_key c.args.renter_key.now c.args.tx [] c.args.tx.contracts)) (sym c.self.view_is) c.requires.stored)
+    c.in_ok-kept.ensures c.in_ok-push_kept.ensures.ok
 
 pub invariant_of-self-3 : goal.invariant_of-self-3
 invariant_of-self-3 c =
     sound_formed c.self.inside.settings.sector c.self.inside.settings.host_key c.args.renter_key.now c.args.tx c.self.inside.contracts c.push_kept.new.contracts c.in_ok-kept.kept c.self.invariant
-    (subst (λ (h : Host). is_among (id_of c.args.tx 0) h.state.contracts ≡ false) (sym c.self.view_is) c.requires.new) c.in_ok-kept.ensures c.in_ok-push_kept.ensures.ok
+    (subst (λ (h : Host). is_among (id_of c.args.tx 0) h.state.contracts ≡ false) (sym c.self.view_is) c.requires.new)
+    (subst (λ (h : Host). All (IsStored h.settings.sector) (formed_by h.settings.host_key c.args.renter_key.now c.args.tx [] c.args.tx.contracts)) (sym c.self.view_is) c.requires.stored)
+    c.in_ok-kept.ensures c.in_ok-push_kept.ensures.ok

@@ -1,7 +1,7 @@
 -- A copy of the host's signature is replied.
 use Rattle.std.proofs.Common.{ap}
 use Rattle.sia_rhp.specs.declared.answer.Answer.TheVariants as answer
-use Rattle.sia_host.specs.declared.reply.Reply.TheVariants as reply
+use Rattle.sia_commands.specs.declared.reply.Reply.TheVariants as reply
 use Rattle.sia_host.proofs.RootsTold.{revised_so}
 use Rattle.sia_host.proofs.host_core.Core.roots_paid.Goals as goal
 

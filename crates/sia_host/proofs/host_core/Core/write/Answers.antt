@@ -1,10 +1,10 @@
 -- The write was judged, so that its proof follows, or the refusal.
 use Rattle.std.proofs.Common.{◌≡◌, None, Some, ap}
 use Rattle.sia_rhp.specs.declared.answer.Answer.TheVariants as answer
-use Rattle.sia_host.specs.declared.call.Call.{Call}
-use Rattle.sia_host.specs.declared.event.Kind.TheVariants as kind
-use Rattle.sia_host.specs.declared.event.Outcome.TheVariants as outcome
-use Rattle.sia_host.specs.declared.reply.Reply.TheVariants as reply
+use Rattle.sia_commands.specs.declared.call.Call.{Call}
+use Rattle.sia_commands.specs.declared.event.Kind.TheVariants as kind
+use Rattle.sia_commands.specs.declared.event.Outcome.TheVariants as outcome
+use Rattle.sia_commands.specs.declared.reply.Reply.TheVariants as reply
 use Rattle.sia_host.specs.Answered.{answered}
 use Rattle.sia_host.specs.Paying.{open_now}
 use Rattle.sia_host.specs.Writing.{write_fault, write_proof}

@@ -1,0 +1,2 @@
+pub mod OutJobs
+pub mod Filling

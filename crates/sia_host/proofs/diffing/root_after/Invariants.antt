@@ -1,4 +1,0 @@
-use Rattle.sia_host.proofs.diffing.root_after.Given as goal
-
-abbrev pub ghosts-root_uncounted : goal.ghosts-root_uncounted
-ghosts-root_uncounted a = record { name = a.blank.name; parts = a.blank.parts }

@@ -1,0 +1,84 @@
+-- Hosts stay sound: a contract that begins has an identifier of its own, and the newest revision of each stores its sectors.
+use Rattle.std.proofs.Common.{◌≡◌, ◌∙◌, ◌≤◌, ℕ, Bool, true, false, List, [], ◌∷◌, ◌++◌, All, length, Option, Some, if◌then◌else◌, refl, sym, subst, ap}
+use Rattle.std.specs.Prelude.{nat_le}
+use Rattle.std.specs.List.{filter, range_with_len}
+use Rattle.std.specs.Option.{option_to_list}
+use Rattle.std.specs.Str.{bytes_eq}
+use Rattle.std.proofs.lemmas.List.{append-nil}
+use Rattle.std.proofs.lemmas.List.Elements.{All-append}
+use Rattle.sia_encoding.specs.declared.limits.TheConstants.{CONTRACT_SECTORS, TOUCHED_PLACES}
+use Rattle.sia_diff.specs.DiffSteps.{counted_steps, is_fit, is_touched, touch_count, touched_places}
+use Rattle.sia_ids.specs.Transactions.{contract_id}
+use Rattle.sia_types.specs.declared.file_contracts.FileContract.{FileContract}
+use Rattle.sia_types.specs.declared.file_contracts.Revision.{Revision}
+use Rattle.sia_types.specs.declared.transaction.Transaction.{Transaction}
+use Rattle.sia_records.specs.declared.change.Change.{Change}
+use Rattle.sia_records.specs.Stored.{stored_after}
+use Rattle.sia_kept.specs.State.{Kept, AreApart, IsSound, IsStored, changed_at, contract_among, formed_by, is_among, new_contract, revised_contract}
+use Rattle.sia_kept.proofs.Apart.{apart_changed, apart_more, same_bytes, unchanged}
+
+-- the contract that a transaction forms has the transaction's identifier
+formed_apart : (host_key renter_key : List ℕ) (tx : Transaction) (terms : List FileContract) (contracts : List Kept)
+    → AreApart contracts → is_among (contract_id tx 0) contracts ≡ false → AreApart (contracts ++ formed_by host_key renter_key tx [] terms)
+unfolding new_contract
+formed_apart host_key renter_key tx [] contracts are new = subst AreApart (sym (append-nil contracts)) are
+formed_apart host_key renter_key tx (terms ∷ others) contracts are new = apart_more contracts (new_contract host_key renter_key tx [] terms) are new
+
+-- a host stays sound with it, where it stores what it has
+pub sound_formed : (sector : ℕ) (host_key renter_key : List ℕ) (tx : Transaction) (old new : List Kept) (kept : Option Kept)
+    → IsSound sector old → is_among (contract_id tx 0) old ≡ false → All (IsStored sector) (formed_by host_key renter_key tx [] tx.contracts)
+    → option_to_list kept ≡ formed_by host_key renter_key tx [] tx.contracts → new ≡ old ++ option_to_list kept → IsSound sector new
+sound_formed sector host_key renter_key tx old new kept sound none stores is grown =
+    let same : new ≡ old ++ formed_by host_key renter_key tx [] tx.contracts = grown ∙ ap (λ xs. old ++ xs) is in
+    record {
+      size = sound.size;
+      apart = subst AreApart (sym same) (formed_apart host_key renter_key tx tx.contracts old sound.apart none);
+      stored = subst (λ xs. All (IsStored sector) xs) (sym same) (All-append (IsStored sector) old (formed_by host_key renter_key tx [] tx.contracts) sound.stored stores);
+    }
+
+-- each contract stores what it has, where the one that is changed does
+stored_changed : (sector : ℕ) (id : List ℕ) (f : Kept → Kept) (xs : List Kept) → AreApart xs → All (IsStored sector) xs
+    → ((c : Kept) → contract_among id xs ≡ Some c → IsStored sector (f c)) → All (IsStored sector) (changed_at id f xs)
+stored_changed sector id f [] are all so = tt
+stored_changed sector id f (x ∷ xs) are all so = cases (bytes_eq x.id id) refl (stored_changed sector id f xs are.1 all.1) so
+  where
+    cases : (b : Bool) → bytes_eq x.id id ≡ b → (((c : Kept) → contract_among id xs ≡ Some c → IsStored sector (f c)) → All (IsStored sector) (changed_at id f xs))
+        → ((c : Kept) → (if b then Some x else contract_among id xs) ≡ Some c → IsStored sector (f c)) → All (IsStored sector) ((if b then f x else x) ∷ changed_at id f xs)
+    cases true at rest so =
+        let none : is_among id xs ≡ false = subst (λ z. is_among z xs ≡ false) (same_bytes x.id id at) are.0 in
+        (so x refl, subst (λ ys. All (IsStored sector) ys) (sym (unchanged id f xs none)) all.1)
+    cases false at rest so = (all.0, rest so)
+
+-- a host stays sound with a revision that stores what it makes of its contract's sectors
+pub sound_revised : (sector : ℕ) (revision : Revision) (renter host : List ℕ) (changes : List Change) (old : List Kept) → IsSound sector old
+    → ((c : Kept) → contract_among revision.parent old ≡ Some c → IsStored sector (revised_contract revision renter host changes c))
+    → IsSound sector (changed_at revision.parent (revised_contract revision renter host changes) old)
+sound_revised sector revision renter host changes old sound so =
+    let f = revised_contract revision renter host changes in
+    record { size = sound.size; apart = apart_changed revision.parent f (λ c. refl) old sound.apart; stored = stored_changed sector revision.parent f old sound.apart sound.stored so }
+
+-- the contract that is found stores what it has
+pub found_stores : (sector : ℕ) (id : List ℕ) (xs : List Kept) (c : Kept) → All (IsStored sector) xs → contract_among id xs ≡ Some c → IsStored sector c
+found_stores sector id [] c all is = (cc)
+found_stores sector id (x ∷ xs) c all is = cases (bytes_eq x.id id) (found_stores sector id xs c all.1) is
+  where
+    cases : (b : Bool) → (contract_among id xs ≡ Some c → IsStored sector c) → (if b then Some x else contract_among id xs) ≡ Some c → IsStored sector c
+    cases true later is = let same : x ≡ c = (cc) in subst (λ k. IsStored sector k) same all.0
+    cases false later is = later is
+
+-- a revision that changes no sector
+
+none_touched : (count : ℕ) (places : List ℕ) → filter (is_touched count []) places ≡ []
+unfolding is_touched touch_count counted_steps
+none_touched count [] = refl
+none_touched count (place ∷ places) = none_touched count places
+
+-- no change is fit
+pub nothing_fits : (count : ℕ) → count ≤ CONTRACT_SECTORS → is_fit count [] ≡ true
+unfolding is_fit counted_steps touched_places
+nothing_fits count few = rw (leb-complete count CONTRACT_SECTORS few) (ap (λ places. nat_le (length places) TOUCHED_PLACES) (none_touched count (range_with_len 0 count)))
+
+-- what stores the sectors stores them after no change
+pub stored_same : (sector : ℕ) (revision : Revision) (renter host : List ℕ) (c : Kept) → IsStored sector (record c { newest = revision }) → IsStored sector (revised_contract revision renter host [] c)
+unfolding stored_after
+stored_same sector revision renter host c stored = record { parent = stored.parent; few = stored.few; size = stored.size; root = stored.root }
