@@ -29,6 +29,7 @@ mod filling;
 mod out_job;
 mod reply;
 mod step;
+mod stop;
 mod want;
 
 pub use call::Call;
@@ -38,4 +39,5 @@ pub use filling::fill_reply;
 pub use out_job::{AskedProof, OutJob, finish_job};
 pub use reply::Reply;
 pub use step::{PutJob, Room, Step};
+pub use stop::Stop;
 pub use want::Want;
