@@ -20,7 +20,7 @@ use Rattle.sia_host.specs.declared.outbox.Due.{Due}
 use Rattle.sia_host.specs.Answered.{Host, next_height}
 use Rattle.sia_host.specs.Jobs.{due_contracts, due_job, due_job_by, in_order, is_above, is_due, is_due_by, next_after, trigger_of}
 use Rattle.sia_host.specs.Least.{is_up_to, least_by, least_with, lesser}
-use Rattle.sia_host.specs.Outbox.{due_by, due_of}
+use Rattle.sia_host.specs.Outbox.{due_by, due_now}
 use Rattle.sia_host.proofs.Walked.{walk_ends}
 
 -- a storage proof by the trigger and the number of sectors
@@ -30,7 +30,7 @@ made_by bytes h c trigger count =
     proof_alone (sector_proof (bytes (get_or c.sectors place no_sector).slot) place (roots_of c) trigger c.id)
 
 -- what is handed out of a due contract is made, with the bytes of the slot, the job of that contract
-pub due_is_made : (bytes : ℕ → List ℕ) (h : Host) (c : Kept) (due : Due) → due_of h c ≡ Some due → due_job bytes h c ≡ Some (proved_by due.asked (bytes due.slot))
+pub due_is_made : (bytes : ℕ → List ℕ) (h : Host) (c : Kept) (due : Due) → due_now h c ≡ Some due → due_job bytes h c ≡ Some (proved_by due.asked (bytes due.slot))
 unfolding due_job_by proved_by
 due_is_made bytes h c due = by_terms (terms_of h.state.chain c.id)
   where

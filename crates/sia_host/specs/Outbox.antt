@@ -51,8 +51,8 @@ due_by h c terms =
     record { contract = c.id; asked = asked; slot = (slice_index_or c.sectors asked.place no_sector).slot }
 
 -- the same of a contract that runs on the chain, as each due one does
-abbrev pub due_of : Host → Kept → Option Due
-due_of h c = option_map (due_by h c) (terms_of h.state.chain c.id)
+abbrev pub due_now : Host → Kept → Option Due
+due_now h c = option_map (due_by h c) (terms_of h.state.chain c.id)
 
 -- the next due contract is handed out, or none: its job lacks the bytes of the sector, which are to be fetched
 abbrev pub due_handed : Host → Call → Option Due → Reaction
@@ -61,4 +61,4 @@ due_handed h call (Some due) = worked h call (Some due.contract) outcome.Fine (r
 
 -- the answer to one that asks for the due contract with the least identifier above this one, or with the least of all
 abbrev pub due_reaction : Host → ℕ → List ℕ → Bool → Reaction
-due_reaction h worker id first = due_handed h (asking worker kind.Due) (option_and_then (due_of h) (next_after id first (due_contracts h)))
+due_reaction h worker id first = due_handed h (asking worker kind.Due) (option_and_then (due_now h) (next_after id first (due_contracts h)))

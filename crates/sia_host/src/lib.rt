@@ -2,10 +2,7 @@
 //!
 //! A host holds contracts with renters, and a session that has a contract's lock may work with it (RHP2; siad's modules/host and
 //! modules/negotiate.go). A command is answered by one reply, one event and at most one record of the journal; what the host knows
-//! is the fold of its records. Events, records, codes and the challenge are this project's own. So far sessions, locks, formations,
-//! the blocks of the chain, a request for a sector, a proposed write, a request for roots of sectors, and what is to be mined for
-//! contracts have calls. What is said of other commands in specs/, to sign a write, to read parts of sectors and to renew, is cited by
-//! no clause yet.
+//! is the fold of its records. Events, records, codes and the challenge are this project's own.
 //!
 //! ```
 //! let mut core = Core::new(alloc, config, seed)?;
@@ -21,19 +18,19 @@
 //!   holds the contract; a leave frees what its session held, and always has memory. For a formation the host adds coins of its own
 //!   that no other contract's formation spends, and its signatures are ones that the signer may make of the whole transaction.
 //!   Roots of sectors are told with their range proof over all of them, for a revision that pays and has the renter's signature: the
-//!   host signs it, and it is the contract's newest one with both signatures. After want of memory all is as before.
-//! - For the next stale contract its newest revision is handed out, or the renewal that this stands in; for the next due one, if a
-//!   storage proof can be asked for, a job that lacks the bytes of a sector. [`finish_job`] is exactly the transaction that a job
-//!   stands for.
-//! - [`fill_reply`] is the reply with the bytes of the sector for which its step names a slot, and takes no memory.
+//!   host signs it, and it is the contract's newest one with both signatures. The newest revision of each contract has the size of its
+//!   sectors and the root over their roots. After want of memory all is as before.
+//! - For the next stale contract its newest revision is handed out by [`Core::step`], or the renewal that this stands in; for the next due
+//!   one a job that lacks the bytes of a sector. Each due contract has one ([`laws::due_jobs_are_made`]).
 //! - [`Core::events`], [`Core::sums`], [`Core::tip`] and [`Core::records`] are those of the present host.
 //!
 //! # Stands on
 //!
-//! sia_ledger for the chain, sia_records and sia_journal for records and their frames, sia_rhp for requests and answers, sia_forms for
-//! formations and the parties' conditions, sia_ids, sia_blake, sia_sign and sia_edge for identifiers, challenges and signatures,
-//! sia_roottree, sia_diff and sia_range for the roots of a contract's sectors and proofs over them, sia_prover and sia_merkle for
-//! storage proofs, sia_price for what is paid, sia_types, sia_rules and sia_encoding for what all of these say.
+//! sia_commands for commands, replies and events, sia_kept for contracts, sectors and sessions, sia_ledger for the chain, sia_records and
+//! sia_journal for records and their frames, sia_rhp for requests and answers, sia_forms for formations and the parties' conditions,
+//! sia_ids, sia_blake and sia_edge for identifiers and signatures, sia_roottree, sia_diff and sia_range for the roots of a contract's
+//! sectors and proofs over them, sia_prover and sia_merkle for storage proofs, sia_price for what is paid, sia_types, sia_rules and
+//! sia_encoding for what all of these say.
 #![tactic(auto)]
 
 mod config;

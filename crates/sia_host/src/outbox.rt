@@ -7,7 +7,7 @@ ghost use Rattle.sia_commands.specs.OutJobs.{IsAsked};
 ghost use Rattle.sia_kept.specs.State.{IsStored, root_in};
 ghost use Rattle.sia_host.specs.Answered.{Host, IsReaction};
 ghost use Rattle.sia_host.specs.Jobs.{due_contracts, is_due, is_due_by, next_after, renewal_of as renewal_so, renews as renews_so, signed_alone as signed_so, stale_contracts, stale_job as stale_job_so, trigger_of};
-ghost use Rattle.sia_host.specs.Outbox.{asked_by as asked_by_so, asking as asking_so, due_handed, due_of as due_of_so, due_reaction, stale_of, stale_reaction};
+ghost use Rattle.sia_host.specs.Outbox.{asked_by as asked_by_so, asking as asking_so, due_handed, due_now as due_now_so, due_reaction, stale_of, stale_reaction};
 
 use crate::host_core::Core;
 use crate::revising::revision_alone;
@@ -126,20 +126,20 @@ impl Core {
 
     // The next due contract, with the storage proof that is asked for.
     fn due_after(&self, alloc: Global, id: &Hash, first: bool) -> Result<Option<Due>, AllocError>
-        ensures exact { IfOk result (λ due. due ≡ option_and_then (due_of_so self.now) (next_after id.now first (due_contracts self.now))) }
+        ensures exact { IfOk result (λ due. due ≡ option_and_then (due_now_so self.now) (next_after id.now first (due_contracts self.now))) }
         ensures ready { IfOk result (λ due. IfSome due (λ d. IsAsked d.asked)) }
     {
         match self.next_due_contract(alloc, id, first)? {
             None => Ok(None),
-            Some(contract) => self.due_of(alloc, contract),
+            Some(contract) => self.due_now(alloc, contract),
         }
     }
 
     // A due contract with the storage proof that is asked for.
-    fn due_of(&self, alloc: Global, contract: &KeptContract) -> Result<Option<Due>, AllocError>
+    fn due_now(&self, alloc: Global, contract: &KeptContract) -> Result<Option<Due>, AllocError>
         requires due { IsTrue (is_due self.now contract.now) }
         requires stored { IsStored self.now.settings.sector contract.now }
-        ensures exact { IfOk result (λ due. due ≡ due_of_so self.now contract.now) }
+        ensures exact { IfOk result (λ due. due ≡ due_now_so self.now contract.now) }
         ensures ready { IfOk result (λ due. IfSome due (λ d. IsAsked d.asked)) }
     {
         let Some(terms) = self.ledger.terms(alloc, &contract.id)? else {
