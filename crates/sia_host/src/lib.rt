@@ -43,6 +43,7 @@ pub mod laws;
 mod locking;
 mod outbox;
 mod paying;
+mod phase;
 mod proposals;
 mod reading;
 mod refusal;
@@ -53,6 +54,7 @@ mod writing;
 
 pub use config::{CoreConfig, CoreFault};
 pub use host_core::Core;
+pub use phase::{Past, Phase};
 pub use sia_commands::{
     AskedProof, Call, Command, Event, Kind, OutJob, Outcome, PutJob, Reply, Room, Step, Want,
     codes, fill_reply, finish_job,
