@@ -47,6 +47,7 @@ mod phase;
 mod proposals;
 mod reading;
 mod refusal;
+mod report;
 mod revising;
 mod stepping;
 mod waiting;
@@ -55,6 +56,7 @@ mod writing;
 pub use config::{CoreConfig, CoreFault};
 pub use host_core::Core;
 pub use phase::{Past, Phase};
+pub use report::ReportRow;
 pub use sia_commands::{
     AskedProof, Call, Command, Event, Kind, OutJob, Outcome, PutJob, Reply, Room, Step, Want,
     codes, fill_reply, finish_job,
