@@ -11,7 +11,7 @@ use Rattle.std.proofs.lemmas.Str.Parse.{IsNumeralModel, numerals_by_value, parse
 use Rattle.sia_config.specs.Decimal.{decimal_number, has_leading_zero}
 
 -- texts of digits, as parsing sees them
-numerals : IsNumeralModel (λ ds. all_ascii_digits ds ≡ true) (digits_value 10)
+pub numerals : IsNumeralModel (λ ds. all_ascii_digits ds ≡ true) (digits_value 10)
 numerals = numerals_by_value _ tells_all_ascii_digits
 
 -- what parsing needs of a text, where a leading zero is left out
@@ -26,7 +26,7 @@ number_none : (text : List ℕ) → (all_ascii_digits text ≡ true → nat_lt 0
 unfolding decimal_number
 number_none text impossible = none_by (all_ascii_digits text) (nat_lt 0 (length text)) (has_leading_zero text) (nat_lt (digits_value 10 text) (2 ^ 128)) (digits_value 10 text) impossible
 
-number_some : (text : List ℕ) → all_ascii_digits text ≡ true → 0 < length text → has_leading_zero text ≡ false → digits_value 10 text < 2 ^ 128 → decimal_number text ≡ Some (digits_value 10 text)
+pub number_some : (text : List ℕ) → all_ascii_digits text ≡ true → 0 < length text → has_leading_zero text ≡ false → digits_value 10 text < 2 ^ 128 → decimal_number text ≡ Some (digits_value 10 text)
 unfolding decimal_number
 number_some text digits some lead small = rw (digits, lt-ltb 0 (length text) some, lead, lt-ltb (digits_value 10 text) (2 ^ 128) small) refl
 

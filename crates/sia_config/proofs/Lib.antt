@@ -1,3 +1,4 @@
 mod Documents
 mod Decimals
+mod Printed
 mod SiafundTables

@@ -7,7 +7,7 @@ use Rattle.toml.specs.Data.{Data}
 use Rattle.sia_encoding.specs.Answer.{◌>>=◌}
 use Rattle.sia_types.specs.declared.settings.Prices.{Prices}
 use Rattle.sia_types.specs.declared.settings.Settings.{Settings}
-use Rattle.sia_config.specs.declared.chain.Chain.{Chain}
+use Rattle.sia_config.specs.declared.chain.ChainKeys.{ChainKeys}
 use Rattle.sia_config.specs.declared.config.Config.{Config}
 use Rattle.sia_config.specs.declared.fault.ConfigFault.{ConfigFault}
 use Rattle.sia_config.specs.declared.fault.ConfigFault.TheVariants as fault
@@ -17,14 +17,14 @@ use Rattle.sia_config.specs.declared.key.ConfigKey.TheVariants as key
 use Rattle.sia_config.specs.declared.renter.Renter.{Renter}
 use Rattle.sia_config.specs.Document.{document}
 use Rattle.sia_config.specs.Siafunds.{siafunds}
-use Rattle.sia_config.specs.Values.{integer, currency}
+use Rattle.sia_config.specs.Values.{integer, amount}
 
 -- the size of a sector: so many times doubled, 64 bytes
 abbrev pub sector_size : ℕ → ℕ
 sector_size power = 64 * 2 ^ power
 
 -- the keys of the chain
-unfoldable pub chain_of : Data → Result Chain ConfigFault
+unfoldable pub chain_of : Data → Result ChainKeys ConfigFault
 chain_of doc = do
   maturity ← integer doc key.Maturity 1 10000 144
   power ← integer doc key.SectorExponent 0 16 16
@@ -37,19 +37,19 @@ limits_of doc = do
   window ← integer doc key.Window 1 1000000 144
   max_duration ← integer doc key.MaxDuration 1 2000000 25920
   margin ← integer doc key.Margin 1 1000 12
-  max_collateral ← currency doc key.MaxCollateral 1000000000000000000000000000
+  max_collateral ← amount doc key.MaxCollateral 1000000000000000000000000000
   Ok (record { window = window; max_duration = max_duration; margin = margin; max_collateral = max_collateral })
 
 -- a host's prices
 unfoldable pub prices_of : Data → Result Prices ConfigFault
 prices_of doc = do
-  contract_price ← currency doc key.ContractPrice 150000000000000000000000
-  base ← currency doc key.BasePrice 100000000000000000
-  access ← currency doc key.AccessPrice 100000000000000000
-  storage ← currency doc key.StoragePrice 25000000000
-  collateral ← currency doc key.HostCollateral 50000000000
-  upload ← currency doc key.UploadPrice 1000000000000
-  download ← currency doc key.DownloadPrice 25000000000000
+  contract_price ← amount doc key.ContractPrice 150000000000000000000000
+  base ← amount doc key.BasePrice 100000000000000000
+  access ← amount doc key.AccessPrice 100000000000000000
+  storage ← amount doc key.StoragePrice 25000000000
+  collateral ← amount doc key.HostCollateral 50000000000
+  upload ← amount doc key.UploadPrice 1000000000000
+  download ← amount doc key.DownloadPrice 25000000000000
   Ok (record { contract_price = contract_price; base = base; access = access; storage = storage; collateral = collateral; upload = upload; download = download })
 
 -- how much a host keeps
@@ -63,8 +63,8 @@ room_of doc = do
 -- the keys of a renter
 unfoldable pub renter_of : Data → Result Renter ConfigFault
 renter_of doc = do
-  fee ← currency doc key.Fee 10000000000000000000000
-  collateral ← currency doc key.RenterCollateral 0
+  fee ← amount doc key.Fee 10000000000000000000000
+  collateral ← amount doc key.RenterCollateral 0
   file_limit ← integer doc key.FileLimit 1024 4294967296 67108864
   Ok (record { fee = fee; collateral = collateral; file_limit = file_limit })
 
@@ -82,7 +82,7 @@ settings_with sector limits prices = record {
 }
 
 -- the configuration of some parts
-abbrev pub config_with : Chain → Limits → Prices → Room → Renter → Config
+abbrev pub config_with : ChainKeys → Limits → Prices → Room → Renter → Config
 config_with chain limits prices room renter = record {
   host = record {
     params = chain.params;

@@ -32,5 +32,5 @@ unfoldable pub integer : Data → ConfigKey → ℕ → ℕ → ℕ → Result �
 integer doc key low high default = ok_or (or_default default (integer_in low high) (value_at key doc)) (fault.Key key)
 
 -- the amount at a key, or its default
-unfoldable pub currency : Data → ConfigKey → ℕ → Result ℕ ConfigFault
-currency doc key default = ok_or (or_default default amount_in (value_at key doc)) (fault.Key key)
+unfoldable pub amount : Data → ConfigKey → ℕ → Result ℕ ConfigFault
+amount doc key default = ok_or (or_default default amount_in (value_at key doc)) (fault.Key key)

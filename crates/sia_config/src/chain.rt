@@ -16,7 +16,7 @@ use toml::Value;
 
 /// A chain, and the size of its hosts' sectors in bytes.
 #[derive(Drop)]
-pub(crate) struct Chain {
+pub(crate) struct ChainKeys {
     pub(crate) params: Params,
     pub(crate) sector: u64,
 }
@@ -31,7 +31,7 @@ fn sector_size(power: u64) -> u64
 
 /// The keys of the table `chain`.
 #[tactic(auto, unfolding(crate::specs::Config::chain_of))]
-pub(crate) fn read_chain(alloc: Global, document: &Value) -> Result<Chain, ConfigFault>
+pub(crate) fn read_chain(alloc: Global, document: &Value) -> Result<ChainKeys, ConfigFault>
     ensures exact { Answers (λ chain. chain) config_told result (chain_of (view document.now)) }
     ensures founds { IfOk result (λ chain. genesis_refusal chain.params ≡ None) }
     ensures sized { IfOk result (λ chain. (power : ℕ) × (power ≤ 16) × (chain.sector ≡ 64 * 2 ^ power)) }
@@ -40,7 +40,7 @@ pub(crate) fn read_chain(alloc: Global, document: &Value) -> Result<Chain, Confi
     let power = integer(document, ConfigKey::SectorExponent, 0, 16, 16)?;
     let funds = siafunds(alloc, document)?;
     let sector = sector_size(power);
-    Ok(Chain {
+    Ok(ChainKeys {
         params: Params { maturity, funds },
         sector,
     })

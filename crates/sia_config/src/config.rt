@@ -9,7 +9,7 @@ pub struct HostConfig {
     pub params: Params,
     /// What it tells renters of itself. The height, the host's key and its address are zero: no configuration names them.
     pub settings: Settings,
-    /// How many blocks before its proof window a contract is closed to revisions: 1 to 1,000.
+    /// How many blocks before a contract's proof window a newer revision is due to be mined: 1 to 1,000.
     pub margin: u64,
     /// How many bytes its journal has at most: 1,024 to 2^36.
     pub journal_limit: u64,

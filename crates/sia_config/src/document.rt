@@ -4,7 +4,7 @@ ghost use Rattle.std.specs.Option.{ok_or};
 ghost use Rattle.toml.specs.View.{view};
 ghost use Rattle.sia_encoding.specs.Answer.{Answers};
 ghost use Rattle.sia_config.specs.Document.{document as document_of, value_at as value_at_of};
-ghost use Rattle.sia_config.specs.Values.{amount_in as amount_in_of, integer_in as integer_in_of, currency as currency_of, integer as integer_of};
+ghost use Rattle.sia_config.specs.Values.{amount_in as amount_in_of, integer_in as integer_in_of, amount as amount_of, integer as integer_of};
 ghost use Rattle.sia_config.specs.Told.{config_told};
 
 use crate::decimal::read_decimal;
@@ -84,9 +84,9 @@ pub(crate) fn integer(
 }
 
 /// The amount at a key, or its default where the key is absent.
-#[tactic(auto, unfolding(crate::specs::Values::currency))]
-pub(crate) fn currency(document: &Value, key: ConfigKey, default: u128) -> Result<u128, ConfigFault>
-    ensures { result ≡ currency_of (view document.now) key default }
+#[tactic(auto, unfolding(crate::specs::Values::amount))]
+pub(crate) fn amount(document: &Value, key: ConfigKey, default: u128) -> Result<u128, ConfigFault>
+    ensures { result ≡ amount_of (view document.now) key default }
 {
     let Some(value) = value_at(document, key) else {
         return Ok(default);

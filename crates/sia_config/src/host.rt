@@ -3,7 +3,7 @@ ghost use Rattle.std.specs.Prelude.{◌^◌, ◌≤◌, ◌≡◌, IfOk};
 ghost use Rattle.toml.specs.View.{view};
 ghost use Rattle.sia_config.specs.Config.{limits_of, prices_of, room_of};
 
-use crate::document::{currency, integer};
+use crate::document::{amount, integer};
 use crate::fault::ConfigFault;
 use crate::key::ConfigKey;
 use sia_types::Prices;
@@ -35,7 +35,7 @@ pub(crate) fn read_limits(document: &Value) -> Result<Limits, ConfigFault>
         window: integer(document, ConfigKey::Window, 1, 1_000_000, 144)?,
         max_duration: integer(document, ConfigKey::MaxDuration, 1, 2_000_000, 25_920)?,
         margin: integer(document, ConfigKey::Margin, 1, 1_000, 12)?,
-        max_collateral: currency(
+        max_collateral: amount(
             document,
             ConfigKey::MaxCollateral,
             1_000_000_000_000_000_000_000_000_000,
@@ -49,17 +49,17 @@ pub(crate) fn read_prices(document: &Value) -> Result<Prices, ConfigFault>
     ensures { result ≡ prices_of (view document.now) }
 {
     Ok(Prices {
-        contract_price: currency(
+        contract_price: amount(
             document,
             ConfigKey::ContractPrice,
             150_000_000_000_000_000_000_000,
         )?,
-        base: currency(document, ConfigKey::BasePrice, 100_000_000_000_000_000)?,
-        access: currency(document, ConfigKey::AccessPrice, 100_000_000_000_000_000)?,
-        storage: currency(document, ConfigKey::StoragePrice, 25_000_000_000)?,
-        collateral: currency(document, ConfigKey::HostCollateral, 50_000_000_000)?,
-        upload: currency(document, ConfigKey::UploadPrice, 1_000_000_000_000)?,
-        download: currency(document, ConfigKey::DownloadPrice, 25_000_000_000_000)?,
+        base: amount(document, ConfigKey::BasePrice, 100_000_000_000_000_000)?,
+        access: amount(document, ConfigKey::AccessPrice, 100_000_000_000_000_000)?,
+        storage: amount(document, ConfigKey::StoragePrice, 25_000_000_000)?,
+        collateral: amount(document, ConfigKey::HostCollateral, 50_000_000_000)?,
+        upload: amount(document, ConfigKey::UploadPrice, 1_000_000_000_000)?,
+        download: amount(document, ConfigKey::DownloadPrice, 25_000_000_000_000)?,
     })
 }
 

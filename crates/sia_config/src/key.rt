@@ -19,8 +19,8 @@ pub enum ConfigKey {
     /// `host.max_duration`: how many blocks from now a contract ends at most. An integer from 1 to 2,000,000; 25,920 where
     /// absent.
     MaxDuration,
-    /// `host.margin`: how many blocks before its proof window a contract is closed to revisions. An integer from 1 to
-    /// 1,000; 12 where absent.
+    /// `host.margin`: how many blocks before a contract's proof window a newer revision is due to be mined. An integer from 1
+    /// to 1,000; 12 where absent.
     Margin,
     /// `host.max_collateral`: what the host risks in one contract at most. An amount; 10^27 hastings where absent.
     MaxCollateral,

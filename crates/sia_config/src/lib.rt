@@ -16,16 +16,18 @@
 //! - [`read_config`] reads every key, or answers exactly the first refusal: bytes that are no TOML document, then the first
 //!   key whose value is of another type or out of its range. Want of memory is never disguised as one of these.
 //! - An accepted configuration ([`read_config`]) makes a genesis that nothing but want of memory refuses, and has a size of
-//!   sectors and limits that the crates above need: 64 bytes doubled at most 16 times, a journal and a renter's file of
-//!   1,024 to 2^36 bytes, at most 2^20 slots and 2^24 events.
+//!   sectors and limits that the crates above need: a sector is 64 bytes doubled at most 16 times, the journal has at least
+//!   1,024 bytes and at most 2^36, a renter's file 1,024 to 2^32, a shelf at most 2^20 slots, and a run 16 to 2^24 events.
 //! - The key of a refusal has its name ([`ConfigKey::table`], [`ConfigKey::name`]) and its place in the order
 //!   ([`ConfigKey::row`]).
-//! - [`read_decimal`] reads exactly the texts of decimal digits without sign and leading zero, below 2^128.
+//! - [`read_decimal`] reads exactly the texts of decimal digits without sign and leading zero, below 2^128; what is printed of
+//!   such a number it reads ([`laws::printed_numbers_are_read`]).
 //!
 //! # Stands on
 //!
-//! sia_types for a host's settings, sia_ledger for what a chain begins from, sia_encoding for lists and for how answers are
-//! spoken of, sia_blake for addresses, and the kit's `toml`, `hex` and `thiserror`.
+//! sia_types for a host's settings, sia_ledger for what a chain begins from, with sia_rules, whose sums its refusals name,
+//! sia_encoding for lists and for how answers are spoken of, sia_blake for addresses, and the kit's `toml`, `hex` and
+//! `thiserror`.
 #![tactic(auto)]
 
 mod chain;
@@ -35,6 +37,7 @@ mod document;
 mod fault;
 mod host;
 mod key;
+pub mod laws;
 mod reading;
 mod renter;
 mod siafunds;

@@ -5,7 +5,7 @@ ghost use Rattle.sia_ledger.specs.Genesis.{genesis_refusal};
 ghost use Rattle.sia_config.specs.Config.{config_of, config_with, settings_with};
 ghost use Rattle.sia_config.specs.Told.{config_told};
 
-use crate::chain::{Chain, read_chain};
+use crate::chain::{ChainKeys, read_chain};
 use crate::config::{Config, HostConfig};
 use crate::document::parse;
 use crate::fault::ConfigFault;
@@ -31,10 +31,16 @@ fn settings(sector: u64, limits: &Limits, prices: &Prices) -> Settings
 }
 
 /// The configuration of its parts.
-fn config(chain: Chain, limits: &Limits, prices: &Prices, room: &Room, renter: &Renter) -> Config
+fn config(
+    chain: ChainKeys,
+    limits: &Limits,
+    prices: &Prices,
+    room: &Room,
+    renter: &Renter,
+) -> Config
     ensures { result ≡ config_with chain limits.now prices.now room.now renter.now }
 {
-    let Chain { params, sector } = chain;
+    let ChainKeys { params, sector } = chain;
     let settings = settings(sector, limits, prices);
     Config {
         host: HostConfig {

@@ -3,7 +3,7 @@ ghost use Rattle.std.specs.Prelude.{◌^◌, ◌≤◌, ◌≡◌, IfOk};
 ghost use Rattle.toml.specs.View.{view};
 ghost use Rattle.sia_config.specs.Config.{renter_of};
 
-use crate::document::{currency, integer};
+use crate::document::{amount, integer};
 use crate::fault::ConfigFault;
 use crate::key::ConfigKey;
 use toml::Value;
@@ -23,8 +23,8 @@ pub(crate) fn read_renter(document: &Value) -> Result<Renter, ConfigFault>
     ensures file { IfOk result (λ renter. (1024 ≤ renter.file_limit) × (renter.file_limit ≤ 2 ^ 32)) }
 {
     Ok(Renter {
-        fee: currency(document, ConfigKey::Fee, 10_000_000_000_000_000_000_000)?,
-        collateral: currency(document, ConfigKey::RenterCollateral, 0)?,
+        fee: amount(document, ConfigKey::Fee, 10_000_000_000_000_000_000_000)?,
+        collateral: amount(document, ConfigKey::RenterCollateral, 0)?,
         file_limit: integer(
             document,
             ConfigKey::FileLimit,
