@@ -20,8 +20,9 @@
 //!   1,024 bytes and at most 2^36, a renter's file 1,024 to 2^32, a shelf at most 2^20 slots, and a run 16 to 2^24 events.
 //! - The key of a refusal has its name ([`ConfigKey::table`], [`ConfigKey::name`]) and its place in the order
 //!   ([`ConfigKey::row`]).
-//! - [`read_decimal`] reads exactly the texts of decimal digits without sign and leading zero, below 2^128; what is printed of
-//!   such a number it reads ([`laws::printed_numbers_are_read`]).
+//! - [`read_decimal`] reads exactly the texts of decimal digits without sign and leading zero, below 2^128:
+//!   what is printed of such numbers ([`laws::printed_numbers_are_read`]), and nothing else
+//!   ([`laws::read_texts_are_printed`]).
 //!
 //! # Stands on
 //!
