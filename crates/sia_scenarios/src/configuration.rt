@@ -137,8 +137,16 @@ fn each_key_is_read_and_an_absent_one_has_its_default(rt: HostRuntime) -> Result
         let config = read_config(rt.alloc(), text.as_str().as_bytes())?;
         assert_eq!(rt; numbers(&config).as_slice(), wanted.as_slice(), "{name}");
         assert_eq!(rt; config.host.settings.height, 0, "{name}");
-        assert_eq!(rt; config.host.settings.host_key.as_slice(), [0; 32].as_slice(), "{name}");
-        assert_eq!(rt; config.host.settings.address.as_slice(), [0; 32].as_slice(), "{name}");
+        assert_eq!(rt;
+            config.host.settings.host_key.as_slice(),
+            [0; 32].as_slice(),
+            "{name}"
+        );
+        assert_eq!(rt;
+            config.host.settings.address.as_slice(),
+            [0; 32].as_slice(),
+            "{name}"
+        );
     }
     Ok(())
 }
@@ -224,8 +232,7 @@ fn siafunds_are_refused_where_they_are_not_the_whole_issue(rt: HostRuntime) -> R
     }
     let values = ["0", "9999", "10001", "\"10000\""];
     for value in values {
-        let text =
-            format!(in rt.alloc(); "[[chain.siafund]]\nto = \"{zero}\"\nvalue = {value}\n")?;
+        let text = format!(in rt.alloc(); "[[chain.siafund]]\nto = \"{zero}\"\nvalue = {value}\n")?;
         check_refused(&rt, value, text.as_str(), "chain.siafund")?;
     }
     let more = [
