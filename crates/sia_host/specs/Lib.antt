@@ -1,5 +1,6 @@
 pub mod Refusals
 pub mod Answered
+pub mod Spoiling
 pub mod Beginning
 pub mod Entering
 pub mod Locking
@@ -14,6 +15,7 @@ pub mod Fetching
 pub mod Reading
 pub mod Renewing
 pub mod Jobs
+pub mod Reporting
 pub mod Replaying
 pub mod Least
 pub mod Outbox

@@ -44,9 +44,11 @@ pub mod laws;
 mod locking;
 mod outbox;
 mod paying;
+mod phase;
 mod proposals;
 mod reading;
 mod refusal;
+mod report;
 mod revising;
 mod sections;
 mod stepping;
@@ -56,6 +58,8 @@ mod writing;
 
 pub use config::{CoreConfig, CoreFault};
 pub use host_core::Core;
+pub use phase::{Past, Phase};
+pub use report::ReportRow;
 pub use sia_commands::{
     AskedProof, Call, Command, Event, Kind, OutJob, Outcome, PutJob, Reply, Room, Step, Want,
     codes, fill_reply, finish_job,
