@@ -1,5 +1,5 @@
 -- What a signed write makes of its contract's sectors, and the answer to it.
-use Rattle.std.proofs.Common.{◌≡◌, ◌∙◌, ◌+◌, ◌*◌, ◌<◌, ◌≤◌, ◌^◌, ℕ, Bool, true, false, List, [], ◌∷◌, ◌++◌, length, map, Option, Some, None, Result, Ok, Err, IfOk, refl, sym, ap, subst, arith}
+use Rattle.std.proofs.Common.{◌≡◌, ◌∙◌, ◌+◌, ◌*◌, ◌<◌, ◌≤◌, ◌^◌, ℕ, Bool, true, false, List, [], ◌∷◌, ◌++◌, append_assoc, append-nil, length, map, Option, Some, None, Result, Ok, Err, IfOk, refl, sym, ap, subst, arith}
 use Rattle.std.specs.Prelude.{nat_lt}
 use Rattle.std.proofs.lemmas.Bool.{ltb-false}
 use Rattle.std.proofs.lemmas.List.{length-map}
@@ -97,6 +97,25 @@ write_stores h room session write c renter host sound is k found =
     let fits : is_fit (length c.sectors) (steps_of write) ≡ true = fits_sectors h write c (can_be_done h room write (open_now h session) c is) in
     subst (λ (x : Kept). IsStored h.settings.sector (revised_contract (written_revision h write c) renter host (written_changes room write) x)) (sym one.0) (revision_stores h room write c renter host one.1 fits)
 
+-- so it may be made the contract's newest one: its changes are fit
+pub may_change : (h : Host) (room : Room) (session : ℕ) (write : Prepared) (c : Kept) (revision : Revision) (changes : List Change) → IsSound h.settings.sector h.state.contracts → unrefused (write_fault h room write) (open_now h session) ≡ Ok c
+    → revision ≡ written_revision h write c → changes ≡ written_changes room write
+    → (k : Kept) → contract_among revision.parent h.state.contracts ≡ Some k → is_fit (length k.sectors) (map step_of changes) ≡ true
+may_change h room session write c revision changes sound is pays changed k found =
+    let own : contract_among (written_revision h write c).parent h.state.contracts ≡ Some k = subst (λ (r : Revision). contract_among r.parent h.state.contracts ≡ Some k) pays found in
+    ap (λ cs. is_fit (length k.sectors) (map step_of cs)) changed
+    ∙ write_fits h room session write c (h.settings.sector * length (written_roots c write)) (node_root_of (written_roots c write)) h.settings.sector sound is k own
+
+-- and the contract stores what it has
+pub may_store : (h : Host) (room : Room) (session : ℕ) (write : Prepared) (c : Kept) (revision : Revision) (changes : List Change) (renter host : List ℕ) → IsSound h.settings.sector h.state.contracts → unrefused (write_fault h room write) (open_now h session) ≡ Ok c
+    → revision ≡ written_revision h write c → changes ≡ written_changes room write
+    → (k : Kept) → contract_among revision.parent h.state.contracts ≡ Some k → IsStored h.settings.sector (revised_contract revision renter host changes k)
+may_store h room session write c revision changes renter host sound is pays changed k found =
+    let own : contract_among (written_revision h write c).parent h.state.contracts ≡ Some k = subst (λ (r : Revision). contract_among r.parent h.state.contracts ≡ Some k) pays found in
+    let stored = write_stores h room session write c renter host sound is k own in
+    let with_changes = subst (λ (cs : List Change). IsStored h.settings.sector (revised_contract (written_revision h write c) renter host cs k)) (sym changed) stored in
+    subst (λ (r : Revision). IsStored h.settings.sector (revised_contract r renter host changes k)) (sym pays) with_changes
+
 -- the shelf has enough free slots
 
 free_in : (fit : Bool) (paid : Option ℕ) (short : Bool) (c contract : Kept) → (unless (broken fit BAD_ACTION or_else paid or_else broken short STORE_FULL) >>= (λ _. Ok c)) ≡ Ok contract → short ≡ false
@@ -118,6 +137,12 @@ pub one_more_put : (slots others : List ℕ) (slot : ℕ) (bytes : List ℕ) (se
     → now ++ put_jobs others sectors ≡ jobs ++ put_jobs slots (bytes ∷ sectors)
 one_more_put slots others slot bytes sectors jobs now is grown =
     ap (λ front. front ++ put_jobs others sectors) grown ∙ append_assoc jobs (record { slot = slot; bytes = bytes } ∷ []) (put_jobs others sectors) ∙ ap (λ s. jobs ++ put_jobs s (bytes ∷ sectors)) (sym is)
+
+-- none is put where none is left
+pub nothing_put : (slots : List ℕ) (sectors : List (List ℕ)) (jobs : List PutJob) → length sectors ≡ 0 → jobs ++ put_jobs slots sectors ≡ jobs
+nothing_put [] sectors jobs none = append-nil jobs
+nothing_put (slot ∷ slots) [] jobs none = append-nil jobs
+nothing_put (slot ∷ slots) (sector ∷ sectors) jobs none = absurd (let some : 0 < length (sector ∷ sectors) = omega arith in omega arith)
 
 -- the answer to a signed write
 pub write_follows : {E : Type 0} (accepts : List ℕ → List ℕ → List ℕ → Bool) (Signs : List ℕ → List ℕ → Type 0) (h : Host) (room : Room) (worker session : ℕ) (write : Prepared) (renter : List ℕ) (contract : Kept) (revision : Revision)

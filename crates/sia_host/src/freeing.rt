@@ -39,11 +39,7 @@ fn slots_of(alloc: Global, sectors: &Sectors) -> Result<Vec<u64>, AllocError>
 }
 
 // Does one change with the slots of sectors, and puts those whose sectors it drops behind the others. The error is want of memory.
-fn free_by(
-    slots: &mut Vec<u64>,
-    freed: &mut List<u64>,
-    change: &Change,
-) -> Result<(), AllocError>
+fn free_by(slots: &mut Vec<u64>, freed: &mut List<u64>, change: &Change) -> Result<(), AllocError>
     requires { IsTrue (step_fits (length slots.old.items) (step_of change.now)) }
     ensures slots { OnOk result (slots.new.items ≡ slots_after_one slots.old.items change.now) }
     ensures freed { OnOk result (freed.new ≡ freed.old ++ freed_by slots.old.items change.now) }

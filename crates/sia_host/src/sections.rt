@@ -126,9 +126,7 @@ impl Core {
 fn has_sectors(contract: &KeptContract, sections: &[Section]) -> bool
     ensures { result ≡ has_sectors_so contract.now sections.now }
 {
-    sections
-        .iter()
-        .all(|section| contract.sectors.slot_with(&section.root).is_some())
+    sections.iter().all(|section| contract.sectors.slot_with(&section.root).is_some())
 }
 
 // What is paid for sections.

@@ -1,5 +1,5 @@
 //! The answer to each command, and a step that is taken back.
-ghost use Rattle.std.specs.Prelude.{◌≡◌, ◌×◌, ◌+◌, true, false, length, IfOk, OnErr};
+ghost use Rattle.std.specs.Prelude.{◌≡◌, ◌+◌, true, false, length, IfOk, OnErr};
 ghost use Rattle.sia_host.specs.declared.phase.Past.{Past as Before};
 ghost use Rattle.sia_host.specs.declared.phase.Phase.TheVariants as phase;
 ghost use Rattle.sia_host.specs.Answered.{Gives};
@@ -91,8 +91,8 @@ impl Core {
             Command::Roots(request) => {
                 self.roots(alloc, room, worker, session, request, check, signer)
             }
-            Command::Renew(_) => unreachable!(),
-            Command::RenewSign(_, _) => unreachable!(),
+            Command::Renew(_) => Err(AllocError),
+            Command::RenewSign(_, _) => Err(AllocError),
             Command::Leave => Ok(self.leave(alloc, worker, session)),
             Command::Apply(block) => self.apply(alloc, room, worker, block, check),
             Command::Revert => self.revert(alloc, room, worker),

@@ -63,7 +63,7 @@ impl Core {
                     id: contract.id,
                     renter_key: contract.renter_key,
                 };
-                let written = written(alloc, self.settings.sector, room, contract, write)?;
+                let written = make_written(alloc, self.settings.sector, room, contract, write)?;
                 self.write_paid(alloc, room, call, party, written, renter, check, signer)
             }
         }
@@ -104,7 +104,7 @@ impl Core {
 }
 
 // What a write comes to that may change a contract's sectors, in sectors of so many bytes. The error is want of memory.
-fn written(
+fn make_written(
     alloc: Global,
     sector: u64,
     room: &Room,
@@ -158,11 +158,7 @@ fn written_revision(
 }
 
 // The sectors, each in the next of these slots. The error is want of memory.
-fn put_jobs(
-    alloc: Global,
-    slots: &[u64],
-    sectors: List<Blob>,
-) -> Result<List<PutJob>, AllocError>
+fn put_jobs(alloc: Global, slots: &[u64], sectors: List<Blob>) -> Result<List<PutJob>, AllocError>
     requires { length sectors ≤ length slots.now }
     ensures { IfOk result (λ jobs. jobs ≡ put_jobs_so slots.now sectors) }
 {
