@@ -14,3 +14,6 @@ pub mod Placed
 pub mod Askings
 pub mod Readable
 pub mod RootsTold
+pub mod Freed
+pub mod Sectioned
+pub mod Written

@@ -4,6 +4,7 @@ use Rattle.sia_types.specs.declared.file_contracts.Revision.{Revision}
 use Rattle.sia_range.specs.Ranges.{part_between, roots_outside}
 use Rattle.sia_rhp.specs.declared.answer.Answer.TheVariants as answer
 use Rattle.sia_rhp.specs.declared.request_bodies.PaidRoots.{PaidRoots}
+use Rattle.sia_records.specs.declared.change.Change.{Change}
 use Rattle.sia_records.specs.declared.host_record.HostRecord.TheVariants as records
 use Rattle.sia_commands.specs.declared.call.Call.{Call}
 use Rattle.sia_commands.specs.declared.event.Kind.TheVariants as kind
@@ -11,7 +12,7 @@ use Rattle.sia_commands.specs.declared.reply.Reply.{Reply}
 use Rattle.sia_commands.specs.declared.reply.Reply.TheVariants as reply
 use Rattle.sia_commands.specs.declared.step.Room.{Room}
 use Rattle.sia_commands.specs.declared.step.Step.{Step}
-use Rattle.sia_host.specs.Answered.{Gives, Host, IsReaction, no_work}
+use Rattle.sia_host.specs.Answered.{Gives, Host, IsReaction, Work, no_work}
 use Rattle.sia_host.specs.Paying.{IsRevised, open_now, paid_revision, revised_unless, revising_fault, revision_hash, unrefused}
 use Rattle.sia_host.specs.Reading.{AreRoots, roots_fault, roots_payment, roots_said}
 use Rattle.sia_kept.specs.State.{Kept, roots_of}
@@ -20,15 +21,15 @@ use Rattle.sia_host.proofs.Held.{follows_given}
 
 -- what is replied has a copy of the host's signature
 pub revised_so : {E : Type 0} (accepts : List ℕ → List ℕ → List ℕ → Bool) (Signs : List ℕ → List ℕ → Type 0) (h : Host) (room : Room) (call : Call) (id renter_key : List ℕ) (revision : Revision) (renter host : List ℕ)
-    (said : List ℕ → Reply) (reply : Reply) (result : Result Step E) (after : Host)
+    (changes : List Change) (said : List ℕ → Reply) (reply : Reply) (work : Work) (result : Result Step E) (after : Host)
     → Signs (revision_hash revision 1) host → reply ≡ said host
-    → IfOk result (λ step. IsReaction h (revised_unless h call id reply (records.Revised revision renter host []) no_work (revising_fault accepts room renter_key revision renter (records.Revised revision renter host []))) step after)
-    → IfOk result (λ step. Gives (IsRevised accepts Signs h room call id renter_key revision renter [] said no_work) h step after)
-revised_so accepts Signs h room call id renter_key revision renter host said reply result after signs is gives =
-    let made = records.Revised revision renter host [] in
+    → IfOk result (λ step. IsReaction h (revised_unless h call id reply (records.Revised revision renter host changes) work (revising_fault accepts room renter_key revision renter (records.Revised revision renter host changes))) step after)
+    → IfOk result (λ step. Gives (IsRevised accepts Signs h room call id renter_key revision renter changes said work) h step after)
+revised_so accepts Signs h room call id renter_key revision renter host changes said reply work result after signs is gives =
+    let made = records.Revised revision renter host changes in
     let fault = revising_fault accepts room renter_key revision renter made in
-    given_so (IsRevised accepts Signs h room call id renter_key revision renter [] said no_work) h (revised_unless h call id reply made no_work fault) result after
-    (host, signs, ap (λ r. revised_unless h call id r made no_work fault) is) gives
+    given_so (IsRevised accepts Signs h room call id renter_key revision renter changes said work) h (revised_unless h call id reply made work fault) result after
+    (host, signs, ap (λ r. revised_unless h call id r made work fault) is) gives
 
 -- roots that are told by a revision that pays for them
 pub roots_follow : {E : Type 0} (accepts : List ℕ → List ℕ → List ℕ → Bool) (Signs : List ℕ → List ℕ → Type 0) (h : Host) (room : Room) (worker session : ℕ) (request : PaidRoots) (contract : Kept) (revision : Revision)

@@ -10,6 +10,7 @@ pub mod Proposals
 pub mod Answers
 pub mod Paying
 pub mod Writing
+pub mod Freeing
 pub mod Fetching
 pub mod Reading
 pub mod Renewing

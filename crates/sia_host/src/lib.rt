@@ -38,6 +38,7 @@ mod entering;
 mod feeding;
 mod fetching;
 mod forming;
+mod freeing;
 mod host_core;
 pub mod laws;
 mod locking;
@@ -49,8 +50,10 @@ mod reading;
 mod refusal;
 mod report;
 mod revising;
+mod sections;
 mod stepping;
 mod waiting;
+mod write_signing;
 mod writing;
 
 pub use config::{CoreConfig, CoreFault};

@@ -12,7 +12,7 @@ ghost use Rattle.sia_kept.specs.State.{IsStored, Kept, contract_among, roots_of}
 
 use crate::host_core::Core;
 use crate::refusal::Refusal;
-use crate::revising::{Party, paid_revision, sign_revision};
+use crate::revising::{Party, ShelfWork, paid_revision, sign_revision};
 use sia_blake::Hash;
 use sia_commands::codes::BAD_RANGE;
 use sia_commands::{Call, Kind, Reply, Room, Step};
@@ -107,7 +107,8 @@ impl Core {
             roots,
             hashes,
         }));
-        self.revise(alloc, room, call, party, signed, reply, check)
+        let work = ShelfWork::none(alloc);
+        self.revise(alloc, room, call, party, signed, work, reply, check)
     }
 
     // The contract whose roots may be told, or why they may not.

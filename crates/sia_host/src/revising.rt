@@ -1,12 +1,12 @@
 //! Revisions that pay: both parties sign them, and they are recorded.
-ghost use Rattle.std.specs.Prelude.{◌≡◌, not, map, length, Some, IfOk, IsTrue, OnErr};
+ghost use Rattle.std.specs.Prelude.{◌≡◌, [], not, map, length, None, Some, IfOk, IsTrue, OnErr};
 ghost use Rattle.sia_encoding.specs.Firsts.{broken, ◌or_else◌};
 ghost use Rattle.sia_diff.specs.DiffSteps.{is_fit};
 ghost use Rattle.sia_records.specs.declared.host_record.HostRecord.TheVariants as records;
 ghost use Rattle.sia_records.specs.Stored.{step_of};
 ghost use Rattle.sia_commands.specs.declared.codes.TheConstants.{BAD_SIGNATURE as bad_signature, STORE_FULL as store_full};
 ghost use Rattle.sia_commands.specs.declared.event.Outcome.TheVariants as outcome;
-ghost use Rattle.sia_host.specs.Answered.{IsReaction, no_work, record_payload, worked};
+ghost use Rattle.sia_host.specs.Answered.{IsReaction, record_payload, worked};
 ghost use Rattle.sia_host.specs.Paying.{paid_revision as paid_revision_so, revised_unless, revising_fault as revising_fault_so, revision_alone as revision_alone_so, revision_hash as revision_hash_so, signs_revision as signs_revision_so};
 ghost use Rattle.sia_kept.specs.State.{IsStored, Kept, contract_among, revised_contract};
 
@@ -14,7 +14,7 @@ use crate::feeding::{frame, lacks_room};
 use crate::host_core::Core;
 use sia_blake::Hash;
 use sia_commands::codes::{BAD_SIGNATURE, STORE_FULL};
-use sia_commands::{Call, Outcome, Reply, Room, Step};
+use sia_commands::{Call, Outcome, PutJob, Reply, Room, Step};
 use sia_edge::{SigCheck, Signer};
 use sia_journal::RecordBuf;
 use sia_kept::{KeptContract, SignedRevision, revise_kept, whole_hash};
@@ -32,6 +32,27 @@ pub(crate) struct Party {
     pub renter_key: [u8; 32],
 }
 
+/// What the record of a revision leaves to be done with the shelf.
+#[derive(Drop)]
+pub(crate) struct ShelfWork {
+    /// The sectors that are to be put into slots.
+    pub puts: List<PutJob>,
+    /// The slots whose sectors the record drops.
+    pub freed: List<u64>,
+}
+
+impl ShelfWork {
+    /// Nothing is to be done. It takes no memory.
+    pub fn none(alloc: Global) -> ShelfWork
+        ensures { result ≡ record { puts = []; freed = [] } }
+    {
+        ShelfWork {
+            puts: List::new(alloc),
+            freed: List::new(alloc),
+        }
+    }
+}
+
 impl Core {
     /// Answers a request by a revision, or by why the revision isn't kept.
     pub(crate) fn revise<C: SigCheck>(
@@ -41,19 +62,20 @@ impl Core {
         call: Call,
         party: Party,
         signed: SignedRevision,
+        work: ShelfWork,
         reply: Reply,
         check: &C,
     ) -> Result<Step, AllocError>
         requires fit { (c : Kept) → contract_among signed.revision.parent self.old.state.contracts ≡ Some c → IsTrue (is_fit (length c.sectors) (map step_of signed.changes)) }
         requires stores { (c : Kept) → contract_among signed.revision.parent self.old.state.contracts ≡ Some c → IsStored self.old.settings.sector (revised_contract signed.revision signed.renter signed.host signed.changes c) }
-        ensures gives { IfOk result (λ step. IsReaction self.old (revised_unless self.old call party.id reply (records.Revised signed.revision signed.renter signed.host signed.changes) no_work (revising_fault_so C.verdict room.now party.renter_key signed.revision signed.renter (records.Revised signed.revision signed.renter signed.host signed.changes))) step self.new) }
+        ensures gives { IfOk result (λ step. IsReaction self.old (revised_unless self.old call party.id reply (records.Revised signed.revision signed.renter signed.host signed.changes) (record { puts = work.puts; fetch = None; freed = work.freed }) (revising_fault_so C.verdict room.now party.renter_key signed.revision signed.renter (records.Revised signed.revision signed.renter signed.host signed.changes))) step self.new) }
         ensures kept { OnErr result (self.new ≡ self.old) }
     {
         let accepted = signs_revision(alloc, &party.renter_key, &signed, check)?;
         let framed = frame_revised(alloc, &signed)?;
         match revising_fault(lacks_room(room, &framed), accepted) {
             Some(code) => self.refuse(alloc, call, Some(party.id), code),
-            None => self.record_revised(alloc, call, party.id, signed, framed, reply),
+            None => self.record_revised(alloc, call, party.id, signed, framed, work, reply),
         }
     }
 
@@ -66,12 +88,13 @@ impl Core {
         id: Hash,
         signed: SignedRevision,
         framed: RecordBuf,
+        work: ShelfWork,
         reply: Reply,
     ) -> Result<Step, AllocError>
         requires framed { framed ≡ record_payload (records.Revised signed.revision signed.renter signed.host signed.changes) }
         requires fit { (c : Kept) → contract_among signed.revision.parent self.old.state.contracts ≡ Some c → IsTrue (is_fit (length c.sectors) (map step_of signed.changes)) }
         requires stores { (c : Kept) → contract_among signed.revision.parent self.old.state.contracts ≡ Some c → IsStored self.old.settings.sector (revised_contract signed.revision signed.renter signed.host signed.changes c) }
-        ensures gives { IfOk result (λ step. IsReaction self.old (worked self.old call (Some id) outcome.Fine reply (Some (records.Revised signed.revision signed.renter signed.host signed.changes)) no_work) step self.new) }
+        ensures gives { IfOk result (λ step. IsReaction self.old (worked self.old call (Some id) outcome.Fine reply (Some (records.Revised signed.revision signed.renter signed.host signed.changes)) (record { puts = work.puts; fetch = None; freed = work.freed })) step self.new) }
         ensures kept { OnErr result (self.new ≡ self.old) }
     {
         self.log.reserve()?;
@@ -79,7 +102,15 @@ impl Core {
         self.records = self.records.saturating_add(1);
         let event = self.event(call, Some(id), Outcome::Fine);
         self.log.note(event);
-        Ok(Step::plain(alloc, reply, Some(framed)))
+        let ShelfWork { puts, freed } = work;
+        Ok(Step {
+            reply,
+            payload: Some(framed),
+            puts,
+            fetch: None,
+            sector: Vec::new(alloc),
+            freed,
+        })
     }
 }
 

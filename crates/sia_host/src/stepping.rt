@@ -84,8 +84,10 @@ impl Core {
             Command::Unlock => self.unlock(alloc, worker, session),
             Command::Fetch(want) => self.fetch(alloc, worker, session, want),
             Command::Write(write) => self.write(alloc, room, worker, session, write),
-            Command::WriteSign(_, _) => Err(AllocError),
-            Command::Read(_) => Err(AllocError),
+            Command::WriteSign(write, renter) => self.write_sign(
+                alloc, room, worker, session, write, renter, check, signer,
+            ),
+            Command::Read(read) => self.read(alloc, room, worker, session, read, check, signer),
             Command::Roots(request) => {
                 self.roots(alloc, room, worker, session, request, check, signer)
             }

@@ -56,8 +56,8 @@ impl Core {
         }
     }
 
-    // The contract that a write may change, or why it may not.
-    fn judge_write(
+    /// The contract that a write may change, or why it may not.
+    pub(crate) fn judge_write(
         &self,
         alloc: Global,
         room: &Room,
