@@ -17,3 +17,5 @@ pub mod RootsTold
 pub mod Freed
 pub mod Sectioned
 pub mod Written
+pub mod Renewals
+pub mod RenewalsSigned

@@ -27,10 +27,14 @@ use Rattle.sia_host.specs.Answered.{Reaction, Host, answered, held_now, lacks_ro
 abbrev pub renewal_terms : Host → Transaction → Kept → Result ℕ ℕ
 renewal_terms h tx c = unless (broken (is_late h c) TOO_LATE) >>= (λ _. by_terms (renew_answer tx c.newest (settings_now h)))
 
+-- the collateral by the terms of a renewal of the contract that a session holds, or the code
+abbrev pub renew_terms : Host → ℕ → Transaction → Result ℕ ℕ
+renew_terms h session tx = open_now h session >>= renewal_terms h tx
+
 -- the collateral that the host is to give in a renewal; or the code of the first of these: the session holds no contract; it was
 -- cleared; its window is too near; the terms aren't what the host asks for; its free coins are worth less than the collateral
 abbrev pub renew_judged : Host → ℕ → Transaction → Result ℕ ℕ
-renew_judged h session tx = (open_now h session >>= renewal_terms h tx) >>= funded h
+renew_judged h session tx = renew_terms h session tx >>= funded h
 
 -- the answer to a proposal of a renewal: what the host adds
 abbrev pub renew_added : Host → Call → Additions → Reaction
@@ -59,11 +63,14 @@ abbrev pub renew_kept : (List ℕ → List ℕ → List ℕ → Bool) → Host �
 renew_kept accepts h room call tx signatures =
     renew_unless h call tx signatures (keeping_fault (lacks_room room (records.Renewed tx)) (set_refusal accepts h.state.chain tx))
 
+-- a renewal is signed and answered so, with what the host adds
+abbrev pub RenewsSigned : (List ℕ → List ℕ → List ℕ → Bool) → (List ℕ → List ℕ → Type 0) → Host → Room → Call → Transaction → List Signature → Additions → Reaction → Type 0
+RenewsSigned accepts Signs h room call tx renter added a =
+    (host : List Signature) × AreRenewalSigned Signs (with_additions tx added) (held_now h call.session) added host
+    × (a ≡ renew_kept accepts h room call (finished tx added renter host) host)
+
 -- A renewal is signed and answered so, on what the host finds now. The session keeps holding the old contract.
 abbrev pub IsRenewSigned : (List ℕ → List ℕ → List ℕ → Bool) → (List ℕ → List ℕ → Type 0) → Host → Room → ℕ → ℕ → Transaction → List Signature → Reaction → Type 0
 IsRenewSigned accepts Signs h room worker session tx renter a =
     let call : Call = record { worker = worker; session = session; kind = kind.RenewSign } in
-    IsProposed h call (held_now h session) tx (renew_judged h session tx)
-    (λ added a. (host : List Signature) × AreRenewalSigned Signs (with_additions tx added) (held_now h session) added host
-    × (a ≡ renew_kept accepts h room call (finished tx added renter host) host))
-    a
+    IsProposed h call (held_now h session) tx (renew_judged h session tx) (RenewsSigned accepts Signs h room call tx renter) a

@@ -48,6 +48,7 @@ mod phase;
 mod proposals;
 mod reading;
 mod refusal;
+mod renewing;
 mod report;
 mod revising;
 mod sections;
