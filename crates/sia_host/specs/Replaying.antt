@@ -23,10 +23,11 @@ use Rattle.sia_records.specs.declared.change.Change.{Change}
 use Rattle.sia_records.specs.declared.change.Change.TheVariants as changes
 use Rattle.sia_records.specs.declared.host_record.HostRecord.{HostRecord}
 use Rattle.sia_records.specs.declared.host_record.HostRecord.TheVariants as records
+use Rattle.sia_records.specs.HostRecords.{host_record}
 use Rattle.sia_records.specs.Stored.{step_of}
-use Rattle.sia_kept.specs.State.{Kept, contract_among, is_among, is_free_slot, live_slots, roots_of}
+use Rattle.sia_kept.specs.State.{Kept, contract_among, is_among, is_free_slot, live_slots, roots_of, with_record}
 use Rattle.sia_host.specs.Paying.{Payment, is_late, is_low, paid_revision, signs_revision, was_cleared}
-use Rattle.sia_host.specs.Answered.{Host}
+use Rattle.sia_host.specs.Answered.{Host, record_payload}
 
 -- contracts that begin
 
@@ -129,3 +130,25 @@ replays accepts h records.Revert = nat_lt 0 (height h.state.chain)
 replays accepts h (records.Formed renter_key tx) = formed_replays accepts h renter_key tx
 replays accepts h (records.Revised revision renter host done) = option_map_or (revises_contract accepts h revision renter done) (contract_among revision.parent h.state.contracts) false
 replays accepts h (records.Renewed tx) = renewed_replays accepts h tx tx.revisions
+
+-- payloads
+
+-- A payload is a record: it spells it whole and without a rest. No length and no count of it is above the payload's own length.
+pub record IsPayload (payload : List ℕ) (made : HostRecord) : Type 0 where
+  pub fits : host_record.fits (length payload) made
+  pub whole : payload ≡ record_payload made
+
+-- a host with a record more; its events stay
+abbrev pub with_made : Host → HostRecord → Host
+with_made h made = record h { state = with_record h.settings.host_key h.state made }
+
+-- A record is replayed so: the answer is whether it follows; then the host knows it, and else all is as before.
+pub record IsReplayed (accepts : List ℕ → List ℕ → List ℕ → Bool) (h : Host) (made : HostRecord) (follows : Bool) (after : Host) : Type 0 where
+  pub judged : follows ≡ replays accepts h made
+  pub host : after ≡ (if follows then with_made h made else h)
+
+-- A payload is replayed so: where it is a record that follows, the host knows that one; where it is no record that follows, all is as
+-- before.
+abbrev pub ReplaysPayload : (List ℕ → List ℕ → List ℕ → Bool) → Host → List ℕ → Bool → Host → Type 0
+ReplaysPayload accepts h payload true after = (made : HostRecord) × IsPayload payload made × (replays accepts h made ≡ true) × (after ≡ with_made h made)
+ReplaysPayload accepts h payload false after = ((made : HostRecord) → IsPayload payload made → replays accepts h made ≡ false) × (after ≡ h)
