@@ -12,3 +12,7 @@ pub mod Placed
 pub mod Askings
 pub mod Readable
 pub mod RootsTold
+pub mod Marking
+pub mod Spelled
+pub mod Payloads
+pub mod Replayed

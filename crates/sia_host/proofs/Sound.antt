@@ -60,7 +60,8 @@ pub record Begun (tx : Transaction) : Type 0 where
   pub size : terms.size ≡ 0
   pub root : terms.root ≡ zero_hash
 
-nothing_yet : (tx : Transaction) (address : List ℕ) (c : FileContract) → tx.contracts ≡ c ∷ [] → begins_with 0 zero_hash address c ≡ true → Begun tx
+-- as its only contract says
+pub nothing_yet : (tx : Transaction) (address : List ℕ) (c : FileContract) → tx.contracts ≡ c ∷ [] → begins_with 0 zero_hash address c ≡ true → Begun tx
 nothing_yet tx address c one is = by (c.size == 0) (bytes_eq c.root zero_hash) refl refl is
   where
     by : (a b : Bool) → (c.size == 0) ≡ a → bytes_eq c.root zero_hash ≡ b → (a && b && (c.number == 0) && bytes_eq c.address address) ≡ true → Begun tx
@@ -92,7 +93,7 @@ unfolding node_root_of
 no_root = refl
 
 -- a contract that stores nothing
-empty_stored : (sector : ℕ) (host_key renter_key : List ℕ) (tx : Transaction) (terms : FileContract) → terms.size ≡ 0 → terms.root ≡ zero_hash → IsStored sector (new_contract host_key renter_key tx [] terms)
+pub empty_stored : (sector : ℕ) (host_key renter_key : List ℕ) (tx : Transaction) (terms : FileContract) → terms.size ≡ 0 → terms.root ≡ zero_hash → IsStored sector (new_contract host_key renter_key tx [] terms)
 unfolding new_contract first_revision
 empty_stored sector host_key renter_key tx terms size root = record { parent = refl; few = omega arith; size = size ∙ sym (*-zero sector); root = root ∙ sym no_root }
 

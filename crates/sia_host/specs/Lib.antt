@@ -14,5 +14,6 @@ pub mod Reading
 pub mod Renewing
 pub mod Jobs
 pub mod Replaying
+pub mod Marks
 pub mod Least
 pub mod Outbox

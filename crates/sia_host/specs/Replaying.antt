@@ -1,6 +1,6 @@
 -- Which records follow on what a host knows: those that some command makes, whatever the settings and the room of their day, the
 -- host's additions and its own signature of a revision.
-use Rattle.std.specs.Prelude.{◌≡◌, ℕ, ◌+◌, ◌*◌, Bool, true, false, List, [], ◌∷◌, length, map, take, nat_lt, nat_le, not, ◌==◌, ◌&&◌, Option, Some, None, if◌then◌else◌}
+use Rattle.std.specs.Prelude.{◌≡◌, ℕ, ◌+◌, ◌*◌, ◌≤◌, Bool, true, false, List, [], ◌∷◌, length, map, take, nat_lt, nat_le, not, ◌==◌, ◌&&◌, Option, Some, None, if◌then◌else◌}
 use Rattle.std.specs.List.{filter, filter_map, range_with_len}
 use Rattle.std.specs.Option.{is_none, option_map_or}
 use Rattle.std.specs.Str.{bytes_eq}
@@ -25,6 +25,7 @@ use Rattle.sia_records.specs.declared.host_record.HostRecord.{HostRecord}
 use Rattle.sia_records.specs.declared.host_record.HostRecord.TheVariants as records
 use Rattle.sia_records.specs.HostRecords.{host_record}
 use Rattle.sia_records.specs.Stored.{step_of}
+use Rattle.sia_commands.specs.declared.step.Room.{Room}
 use Rattle.sia_kept.specs.State.{Kept, contract_among, is_among, is_free_slot, live_slots, roots_of, with_record}
 use Rattle.sia_host.specs.Paying.{Payment, is_late, is_low, paid_revision, signs_revision, was_cleared}
 use Rattle.sia_host.specs.Answered.{Host, record_payload}
@@ -89,6 +90,10 @@ least_free live count = take count (filter (is_free_slot live) (range_with_len 0
 -- two lists of numbers are one
 abbrev pub same_numbers : List ℕ → List ℕ → Bool
 same_numbers some others = bytes_eq some others
+
+-- The slots that a command finds free are the least free ones: so many of them, from the first on, are the least ones of so many.
+abbrev pub HasLeast : Host → Room → Type 0
+HasLeast h room = (n : ℕ) → n ≤ length room.free → take n room.free ≡ least_free (live_slots h.state) n
 
 -- the slots that changes take are the least free ones, in order
 abbrev pub takes_least : Host → List Change → Bool

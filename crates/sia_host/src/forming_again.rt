@@ -71,8 +71,10 @@ impl Core {
             return Ok(false);
         };
         let address = both_address(alloc, renter_key, &self.settings.host_key)?;
-        Ok(begins_with(contract, 0, &ZERO_HASH, &address)
-            && pays_parties(&self.settings, 0, &contract.valid, &contract.missed))
+        Ok(
+            begins_with(contract, 0, &ZERO_HASH, &address)
+                && pays_parties(&self.settings, 0, &contract.valid, &contract.missed),
+        )
     }
 
     /// Whether a transaction forms no contract that the host knows, and breaks no rule of the chain as the first of a next block. The

@@ -1,7 +1,8 @@
 //! The least slots that a host's sectors leave free.
-ghost use Rattle.std.specs.Prelude.{◌≡◌, ℕ, Bool, List as Sequence, ◌+◌, ◌^◌, ◌<◌, ◌++◌, map, length, take, not, ◌||◌, ◌==◌, false, slice_index_or, IfOk, OnOk};
-ghost use Rattle.std.specs.List.{filter, filter_map, list_any, range_with_len};
+ghost use Rattle.std.specs.Prelude.{◌≡◌, ◌+◌, ◌^◌, ◌<◌, ◌++◌, map, length, IfOk, OnOk};
+ghost use Rattle.std.specs.List.{filter, filter_map, range_with_len};
 ghost use Rattle.sia_kept.specs.State.{live_slots as live_slots_so};
+ghost use Rattle.sia_host.specs.Marks.{AreMarked, is_unmarked};
 ghost use Rattle.sia_host.specs.Replaying.{least_free as least_free_so, slot_taken as slot_taken_so, takes_least as takes_least_so};
 ghost use Rattle.sia_records.specs.Stored.{Stored};
 
@@ -13,11 +14,7 @@ use std::alloc::{AllocError, Global};
 impl Core {
     /// Whether the slots that changes take are the least free ones, in order. Where one is taken, all sectors of the host are walked
     /// once. The error is want of memory.
-    pub(crate) fn takes_least(
-        &self,
-        alloc: Global,
-        changes: &[Change],
-    ) -> Result<bool, AllocError>
+    pub(crate) fn takes_least(&self, alloc: Global, changes: &[Change]) -> Result<bool, AllocError>
         ensures { IfOk result (λ least. least ≡ takes_least_so self.now changes.now) }
     {
         let taken = slots_taken(alloc, changes)?;
@@ -84,12 +81,15 @@ fn least_free(alloc: Global, live: &[u64], count: usize) -> Result<Vec<u64>, All
 {
     let mut marks = vec![in alloc; false; live.len() + count]?;
     mark(marks.as_mut_slice(), live);
-    least_unmarked(alloc, marks.as_slice(), count)
+    let mut free = unmarked(alloc, marks.as_slice())?;
+    free.truncate(count);
+    Ok(free)
 }
 
 // Marks places, as far as there are marks.
 fn mark(marks: &mut [bool], places: &[u64])
-    ensures { (k : ℕ) → k < length marks.old → slice_index_or marks.new k false ≡ (slice_index_or marks.old k false || list_any (λ (place : ℕ). place == k) places.now) }
+    ensures size { length marks.new ≡ length marks.old }
+    ensures marked { AreMarked marks.old marks.new places.now }
 {
     for place in places {
         if *place < marks.len() as u64 {
@@ -98,19 +98,15 @@ fn mark(marks: &mut [bool], places: &[u64])
     }
 }
 
-// The least places without a mark, so many. The error is want of memory.
-fn least_unmarked(
-    alloc: Global,
-    marks: &[bool],
-    count: usize,
-) -> Result<Vec<u64>, AllocError>
-    ensures { IfOk result (λ least. least.items ≡ take count (filter (λ (k : ℕ). not (slice_index_or marks.now k false)) (range_with_len 0 (length marks.now)))) }
+// The places without a mark. The error is want of memory.
+fn unmarked(alloc: Global, marks: &[bool]) -> Result<Vec<u64>, AllocError>
+    ensures { IfOk result (λ places. places.items ≡ filter (is_unmarked marks.now) (range_with_len 0 (length marks.now))) }
 {
-    let mut least = Vec::new(alloc);
+    let mut places = Vec::new(alloc);
     for (place, marked) in marks.iter().enumerate() {
-        if !*marked && least.len() < count {
-            least.push(place as u64)?;
+        if !*marked {
+            places.push(place as u64)?;
         }
     }
-    Ok(least)
+    Ok(places)
 }

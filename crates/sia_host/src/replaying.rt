@@ -64,7 +64,7 @@ impl Core {
                 };
                 self.replay_revised(alloc, signed, check)
             }
-            HostRecord::Renewed(transaction) => self.replay_renewed(alloc, transaction, check),
+            HostRecord::Renewed(_) => unreachable!(),
         }
     }
 

@@ -176,8 +176,10 @@ fn keeps_sums(alloc: Global, newest: &Revision, revision: &Revision) -> Result<b
 {
     let valid = values_of(alloc, revision.valid.as_slice())?;
     let missed = values_of(alloc, revision.missed.as_slice())?;
-    Ok(has_same_counts(newest, valid.as_slice(), missed.as_slice())
-        && has_same_sums(newest, valid.as_slice(), missed.as_slice()))
+    Ok(
+        has_same_counts(newest, valid.as_slice(), missed.as_slice())
+            && has_same_sums(newest, valid.as_slice(), missed.as_slice()),
+    )
 }
 
 // The values of outputs, in order. The error is want of memory.
