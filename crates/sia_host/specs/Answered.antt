@@ -17,20 +17,22 @@ use Rattle.sia_commands.specs.declared.event.Outcome.TheVariants as outcome
 use Rattle.sia_commands.specs.declared.reply.Reply.{Reply}
 use Rattle.sia_commands.specs.declared.reply.Reply.TheVariants as reply
 use Rattle.sia_kept.specs.declared.session.Session.{Session}
+use Rattle.sia_host.specs.declared.phase.Phase.{Phase}
 use Rattle.sia_commands.specs.declared.step.PutJob.{PutJob}
 use Rattle.sia_commands.specs.declared.step.Room.{Room}
 use Rattle.sia_commands.specs.declared.step.Step.{Step}
 use Rattle.sia_kept.specs.Sessions.{begins, challenge_at, holder_among, live_sessions, with_number}
 use Rattle.sia_kept.specs.State.{Kept, HostState, with_record, contract_among, counted_more}
 
--- a host: its settings, whose height isn't looked at, its margin and its seed; what it knows by its records; and the events of
--- this run
+-- a host: its settings, whose height isn't looked at, its margin and its seed; what it knows by its records; the events of this run; and
+-- how it came to be so
 pub record Host : Type 0 where
   pub settings : Settings
   pub margin : ℕ
   pub seed : List ℕ
   pub state : HostState
   pub events : List Event
+  pub phase : Phase
 
 -- its settings, with the height of its chain
 abbrev pub settings_now : Host → Settings

@@ -1,5 +1,6 @@
 pub mod Refusals
 pub mod Answered
+pub mod Spoiling
 pub mod Beginning
 pub mod Entering
 pub mod Locking

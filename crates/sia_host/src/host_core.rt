@@ -3,15 +3,17 @@ ghost use Rattle.std.specs.Prelude.{◌≡◌, ℕ, ◌*◌, ◌^◌, ◌≤◌,
 ghost use Rattle.sia_encoding.specs.Answer.{Answers as Tells, itself, unless};
 ghost use Rattle.sia_ledger.specs.Chain.{begun};
 ghost use Rattle.sia_ledger.specs.Genesis.{genesis_refusal};
-ghost use Rattle.sia_ledger.specs.Holdings.{sums_of, tip as tip_so};
 ghost use Rattle.sia_commands.specs.declared.event.Outcome.TheVariants as outcome;
 ghost use Rattle.sia_commands.specs.declared.reply.Reply.TheVariants as reply;
 ghost use Rattle.sia_kept.specs.State.{Kept, first_state};
 ghost use Rattle.sia_host.specs.Answered.{IsReaction, Host, answered, contract_now, event_of, held_now, idle_now, refused, settings_now};
+ghost use Rattle.sia_host.specs.declared.phase.Phase.TheVariants as phase;
+ghost use Rattle.sia_host.specs.Spoiling.{past_of, told_of};
 ghost use Rattle.sia_host.specs.Beginning.{core_told};
 ghost use Rattle.sia_host.specs.Refusals.{code_told};
 
 use crate::config::{CoreConfig, CoreFault};
+use crate::phase::{Past, Phase};
 use crate::refusal::Refusal;
 use sia_blake::Hash;
 use sia_commands::codes::{NO_CONTRACT, WRONG_STATE};
@@ -32,17 +34,22 @@ pub struct Core {
     pub(crate) contracts: List<KeptContract>,
     pub(crate) records: u64,
     pub(crate) log: Log,
+    pub(crate) phase: Phase,
 }
 
 impl Model for Core {
-    ghost use Rattle.sia_host.specs.Answered.{Host};
+    ghost use Rattle.std.specs.Prelude.{◌≡◌, ◌<◌, length};
     ghost use Rattle.sia_kept.specs.State.{IsSound};
+    ghost use Rattle.sia_host.specs.declared.phase.Past.{Past};
+    ghost use Rattle.sia_host.specs.declared.phase.Phase.TheVariants as phase;
+    ghost use Rattle.sia_host.specs.Answered.{Host};
+    ghost use Rattle.sia_host.specs.Spoiling.{is_spoiled};
 
     ghost Value = { Host };
 
-    ghost view = { λ c. record { settings = c.settings; margin = c.margin; seed = c.log.seed; state = record { chain = c.ledger; contracts = c.contracts; count = c.records }; events = c.log.events } };
+    ghost view = { λ c. record { settings = c.settings; margin = c.margin; seed = c.log.seed; state = record { chain = c.ledger; contracts = c.contracts; count = c.records }; events = c.log.events; phase = c.phase } };
 
-    ghost invariant = { λ c. IsSound c.settings.sector c.contracts };
+    ghost invariant = { λ c. IsSound c.settings.sector c.contracts × (c.log.spoiled ≡ is_spoiled c.phase) × ((past : Past) → c.phase ≡ phase.Stepped past → 0 < length c.log.events) };
 }
 
 impl Core {
@@ -53,7 +60,7 @@ impl Core {
     pub fn new(alloc: Global, config: CoreConfig, seed: [u8; 32]) -> Result<Core, CoreFault>
         requires size { (power : ℕ) × (power ≤ 16) × (config.settings.sector ≡ 64 * 2 ^ power) }
         ensures judged { Tells (λ _. tt) core_told result (unless (genesis_refusal config.params)) }
-        ensures begun { IfOk result (λ core. core ≡ record { settings = config.settings; margin = config.margin; seed = seed; state = first_state config.params; events = [] }) }
+        ensures begun { IfOk result (λ core. core ≡ record { settings = config.settings; margin = config.margin; seed = seed; state = first_state config.params; events = []; phase = phase.Settled }) }
     {
         let CoreConfig {
             params,
@@ -68,6 +75,7 @@ impl Core {
             contracts: List::new(alloc),
             records: 0,
             log: Log::new(alloc, seed),
+            phase: Phase::Settled,
         })
     }
 
@@ -78,25 +86,47 @@ impl Core {
         self.log.events()
     }
 
-    /// What the chain holds.
+    /// What the chain holds; once a step was taken back, what it held before that step.
     pub fn sums(&self) -> Sums
-        ensures { result ≡ sums_of self.now.state.chain }
+        ensures { result ≡ (told_of self.now).sums }
     {
-        self.ledger.sums()
+        self.told().sums
     }
 
-    /// The identifier of the chain's last block.
+    /// The identifier of the chain's last block; once a step was taken back, of the last one before that step.
     pub fn tip(&self) -> Hash
-        ensures { result ≡ tip_so self.now.state.chain }
+        ensures { result ≡ (told_of self.now).tip }
     {
-        self.ledger.tip()
+        self.told().tip
     }
 
-    /// How many records the host has kept, as far as a number of 64 bits goes.
+    /// How many records the host has kept, as far as a number of 64 bits goes; once a step was taken back, before that step.
     pub fn records(&self) -> u64
-        ensures { result ≡ self.now.state.count }
+        ensures { result ≡ (told_of self.now).records }
     {
-        self.records
+        self.told().records
+    }
+
+    // What is told of the chain and the records.
+    fn told(&self) -> Past
+        ensures { result ≡ told_of self.now }
+    {
+        match self.phase {
+            Phase::Settled => self.present(),
+            Phase::Stepped(_) => self.present(),
+            Phase::Spoiled(past) => past,
+        }
+    }
+
+    /// What the chain holds, its last block, and how many records there are.
+    pub(crate) fn present(&self) -> Past
+        ensures { result ≡ past_of self.now }
+    {
+        Past {
+            sums: self.ledger.sums(),
+            tip: self.ledger.tip(),
+            records: self.records,
+        }
     }
 
     /// The settings, with the height of the chain.

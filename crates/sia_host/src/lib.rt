@@ -45,6 +45,7 @@ mod least_slots;
 mod locking;
 mod outbox;
 mod paying;
+mod phase;
 mod proposals;
 mod reading;
 mod refusal;
@@ -58,6 +59,7 @@ mod writing;
 
 pub use config::{CoreConfig, CoreFault};
 pub use host_core::Core;
+pub use phase::{Past, Phase};
 pub use sia_commands::{
     AskedProof, Call, Command, Event, Kind, OutJob, Outcome, PutJob, Reply, Room, Step, Want,
     codes, fill_reply, finish_job,

@@ -1,6 +1,8 @@
 -- How the live sessions grow with the events.
-use Rattle.std.proofs.Common.{◌≡◌, ℕ, zero, suc, ◌+◌, ◌<◌, ◌==◌, Bool, true, false, List, [], ◌∷◌, ◌++◌, length, find, count_by, map, take, drop, get_or, set, not, if◌then◌else◌, Option, Some, None, IsSome, refl, sym, ap, ◌∙◌, add-zero, arith}
+use Rattle.std.proofs.Common.{◌≡◌, ℕ, zero, suc, ◌+◌, ◌-◌, ◌<◌, ◌≤◌, ◌==◌, Bool, true, false, List, [], ◌∷◌, ◌++◌, length, find, count_by, map, take, drop, get_or, set, not, if◌then◌else◌, Option, Some, None, IsSome, refl, sym, ap, ◌∙◌, add-zero, arith}
 use Rattle.std.specs.List.{filter}
+use Rattle.std.proofs.Math.Seq.{take-append_seam}
+use Rattle.std.proofs.lemmas.List.{length-append}
 use Rattle.sia_commands.specs.declared.event.Event.{Event}
 use Rattle.sia_kept.specs.declared.session.Session.{Session}
 use Rattle.sia_kept.specs.declared.session.Effect.TheVariants as effect
@@ -8,6 +10,7 @@ use Rattle.std.proofs.lemmas.List.Sums.{sum_by-append}
 use Rattle.std.proofs.lemmas.List.Edits.{map_over_more}
 use Rattle.std.proofs.lemmas.Grind.{common_steps}
 use Rattle.sia_kept.specs.declared.session.Effect.{Effect}
+use Rattle.sia_kept.specs.Logs.{earlier, room_back}
 use Rattle.sia_kept.specs.Sessions.{begins, challenge_at, effect_of, is_beginning, live_sessions, sessions_after, sessions_by, sessions_from, with_number, without_session}
 
 -- one event more comes after all others
@@ -78,3 +81,47 @@ uncounted events more event before are ends grown =
 pub one_more_changed : (number : ℕ) (f : Session → Session) (all now : List Session) (i : ℕ) (x y : Session) → now ≡ map (λ s. if s.number == number then f s else s) (take i all) ++ drop i all → i < length all → x ≡ get_or now i x → y ≡ (if x.number == number then f x else x) → set now i y ≡ map (λ s. if s.number == number then f s else s) (take (i + 1) all) ++ drop (i + 1) all
 one_more_changed number f all now i x y so_far below is changed =
     ap (λ z. set now i z) changed ∙ map_over_more (λ s. if s.number == number then f s else s) all now i x below so_far is
+
+-- taking back the last event
+
+-- the events before one that was put behind them
+pub earlier_more : (events more : List Event) (event : Event) → more ≡ events ++ event ∷ [] → earlier more ≡ events
+earlier_more events more event grown =
+    ap earlier grown ∙ ap (λ n. take n (events ++ event ∷ [])) (shorter events event) ∙ take-append_seam events (event ∷ [])
+  where
+    shorter : (events : List Event) (event : Event) → length (events ++ event ∷ []) - 1 ≡ length events
+    shorter events event = omega (arith, length-append events (event ∷ []))
+
+-- at most one place is kept to take an event back
+pub room_few : (events : List Event) (spoiled : Bool) → room_back events spoiled ≤ 1
+room_few events true = omega arith
+room_few [] false = omega arith
+room_few (event ∷ events) false = omega arith
+
+-- and one where there are events
+pub room_one : (events : List Event) → 0 < length events → room_back events false ≡ 1
+room_one [] some = absurd (omega (arith, some))
+room_one (event ∷ events) some = refl
+
+pub room_same : (events more : List Event) (spoiled : Bool) → 0 < length events → 0 < length more → room_back more spoiled ≡ room_back events spoiled
+room_same events more true some many = refl
+room_same events more false some many = room_one more many ∙ sym (room_one events some)
+
+-- a session is live by some event
+pub live_by_some : (seed : List ℕ) (events : List Event) (number : ℕ) → IsSome (with_number number (live_sessions seed events)) → 0 < length events
+unfolding sessions_from
+live_by_some seed [] number live = (cc)
+live_by_some seed (event ∷ events) number live = omega arith
+
+-- an event that does nothing to a session
+pub live_stays : (seed : List ℕ) (events more : List Event) (event : Event) → effect_of event.kind event.outcome ≡ effect.Stays → more ≡ events ++ event ∷ [] → live_sessions seed events ≡ live_sessions seed more
+live_stays seed events more event stays grown =
+    sym (ap (λ es. live_sessions seed es) grown ∙ live_more seed events event ∙ ap (λ done. sessions_by done event.session (challenge_at seed (length events)) event.contract (live_sessions seed events)) stays)
+
+-- begins none
+pub stays_uncounted : (events more : List Event) (event : Event) (before : ℕ) → before ≡ count_by begins events → effect_of event.kind event.outcome ≡ effect.Stays → more ≡ events ++ event ∷ [] → before ≡ count_by begins more
+stays_uncounted events more event before are stays grown =
+    let none : begins event ≡ false = ap is_beginning stays in
+    let zero_of : 0 ≡ (if begins event then 1 else 0) = ap (λ b. if b then 1 else 0) (sym none) in
+    let sum : before + 0 ≡ count_by begins more = counted events more event before 0 are zero_of grown in
+    omega arith

@@ -1,7 +1,7 @@
 //! The events of a run, and the sessions that are live by them.
-ghost use Rattle.std.specs.Prelude.{◌≡◌, ◌≢◌, ℕ, ◌+◌, ◌*◌, ◌<◌, ◌≤◌, ◌==◌, [], ◌∷◌, ◌++◌, map, length, if◌then◌else◌, vec_len, vec_capacity, IsSome, OnOk, OnErr, option_copied};
+ghost use Rattle.std.specs.Prelude.{◌≡◌, ◌≢◌, ℕ, ◌+◌, ◌*◌, ◌<◌, ◌≤◌, ◌==◌, true, false, [], ◌∷◌, ◌++◌, map, length, if◌then◌else◌, vec_len, vec_capacity, IsSome, OnOk, OnErr, option_copied};
 ghost use Rattle.std.specs.List.{count_by};
-ghost use Rattle.sia_kept.specs.Logs.{LogView};
+ghost use Rattle.sia_kept.specs.Logs.{LogView, earlier};
 ghost use Rattle.sia_kept.specs.Sessions.{begins, challenge_at as challenge_so, session_changed, effect_of as effect_so, holder_among, is_held as is_held_so, live_sessions, sessions_after, sessions_by, with_number, without_session};
 
 use crate::session::{Effect, Session, effect_of};
@@ -9,54 +9,61 @@ use sia_blake::{Hash, Hasher};
 use sia_commands::{Event, Kind, Outcome};
 use std::alloc::{AllocError, Global};
 use std::marker::Model;
+use std::mem::swap;
 
-/// The events of a run, in order, and the live sessions. Contracts see the seed of the challenges, the events, and for how many more
-/// there is room; the leave of a live session always has room.
+/// The events of a run, in order, and the live sessions, as they are and as they were before the last event. Contracts see the seed of the
+/// challenges, the events, for how many more there is room, and whether an event was taken back; the leave of a live session always has
+/// room.
 #[derive(Drop)]
 pub struct Log {
     seed: Hash,
     events: Vec<Event>,
     sessions: Vec<Session>,
+    before: Vec<Session>,
     entered: u64,
     spare: u64,
+    spoiled: bool,
 }
 
 impl Model for Log {
-    ghost use Rattle.std.specs.Prelude.{◌≡◌, ◌+◌, ◌*◌, ◌≤◌, vec_len, vec_capacity};
+    ghost use Rattle.std.specs.Prelude.{◌≡◌, ◌+◌, ◌*◌, ◌≤◌, false, vec_len, vec_capacity};
     ghost use Rattle.std.specs.List.{count_by};
-    ghost use Rattle.sia_kept.specs.Logs.{LogView};
+    ghost use Rattle.sia_kept.specs.Logs.{LogView, earlier, room_back};
     ghost use Rattle.sia_kept.specs.Sessions.{begins, live_sessions};
 
     ghost Value = { LogView };
 
-    ghost view = { λ l. record { seed = l.seed; events = l.events.items; spare = l.spare } };
+    ghost view = { λ l. record { seed = l.seed; events = l.events.items; spare = l.spare; spoiled = l.spoiled } };
 
-    ghost invariant = { λ l. (l.sessions.items ≡ live_sessions l.seed l.events.items) × (l.entered ≡ count_by begins l.events.items) × (vec_len l.events + vec_len l.sessions + 2 * l.spare ≤ vec_capacity l.events) × (vec_len l.sessions + l.spare ≤ vec_capacity l.sessions) };
+    ghost invariant = { λ l. (l.sessions.items ≡ live_sessions l.seed l.events.items) × (l.entered ≡ count_by begins l.events.items) × (vec_len l.events + vec_len l.sessions + room_back l.events.items l.spoiled + 3 * l.spare ≤ vec_capacity l.events) × (vec_len l.sessions + l.spare ≤ vec_capacity l.sessions) × (vec_len l.sessions + l.spare ≤ vec_capacity l.before) × (vec_len l.before ≤ vec_capacity l.sessions) × (l.spoiled ≡ false → (l.before.items ≡ live_sessions l.seed (earlier l.events.items)) × (vec_len l.events + vec_len l.before ≤ vec_capacity l.events)) };
 }
 
 impl Log {
     /// No event, and room for none. It takes no memory.
     #[tactic(auto, unfolding(crate::specs::Sessions::sessions_from))]
     pub fn new(alloc: Global, seed: Hash) -> Log
-        ensures { result ≡ record { seed = seed; events = []; spare = 0 } }
+        ensures { result ≡ record { seed = seed; events = []; spare = 0; spoiled = false } }
     {
         Log {
             seed,
             events: Vec::new(alloc),
             sessions: Vec::new(alloc),
+            before: Vec::new(alloc),
             entered: 0,
             spare: 0,
+            spoiled: false,
         }
     }
 
     /// Makes room for one event more. Its error is want of memory.
     pub fn reserve(&mut self) -> Result<(), AllocError>
-        ensures ok { OnOk result (self.new ≡ record { seed = self.old.seed; events = self.old.events; spare = 1 }) }
+        ensures ok { OnOk result (self.new ≡ record self.old { spare = 1 }) }
         ensures err { OnErr result (self.new ≡ self.old) }
     {
-        let more = self.sessions.len() + 2;
-        self.events.reserve(more)?;
+        let live = self.sessions.len();
+        self.events.reserve(live + 4)?;
         self.sessions.reserve(1)?;
+        self.before.reserve(live + 1)?;
         self.spare = 1;
         Ok(())
     }
@@ -64,10 +71,11 @@ impl Log {
     /// Puts an event behind the last one, in room that is there.
     pub fn note(&mut self, event: Event)
         requires { 1 ≤ self.old.spare }
-        ensures { self.new ≡ record { seed = self.old.seed; events = self.old.events ++ event ∷ []; spare = 0 } }
+        ensures { self.new ≡ record self.old { events = self.old.events ++ event ∷ []; spare = 0 } }
     {
         let place = self.events.len() as u64;
         self.spare = 0;
+        copy_sessions(&self.sessions, &mut self.before);
         follow(&self.seed, place, &event, &mut self.sessions);
         self.entered += begun(&event);
         let Ok(()) = self.events.push(event) else {
@@ -79,9 +87,30 @@ impl Log {
     pub fn note_leave(&mut self, event: Event)
         requires live { IsSome (with_number event.session (live_sessions self.old.seed self.old.events)) }
         requires ends { effect_so event.kind event.outcome ≡ Effect.Ends }
-        ensures { self.new ≡ record { seed = self.old.seed; events = self.old.events ++ event ∷ []; spare = self.old.spare } }
+        ensures { self.new ≡ record self.old { events = self.old.events ++ event ∷ [] } }
     {
+        copy_sessions(&self.sessions, &mut self.before);
         end(&mut self.sessions, event.session);
+        let Ok(()) = self.events.push(event) else {
+            unreachable!()
+        };
+    }
+
+    /// Puts another event, which does nothing to a session, in the place of the last one, and the sessions are as they were before that
+    /// one. It is done once at most. It takes no memory.
+    pub fn spoil(&mut self, event: Event)
+        requires some { 0 < length self.old.events }
+        requires once { self.old.spoiled ≡ false }
+        requires stays { effect_so event.kind event.outcome ≡ Effect.Stays }
+        ensures { self.new ≡ record self.old { events = earlier self.old.events ++ event ∷ []; spare = 0; spoiled = true } }
+    {
+        let Some(last) = self.events.pop() else {
+            unreachable!()
+        };
+        self.entered -= begun(&last);
+        self.spare = 0;
+        self.spoiled = true;
+        swap(&mut self.sessions, &mut self.before);
         let Ok(()) = self.events.push(event) else {
             unreachable!()
         };
@@ -125,6 +154,20 @@ impl Log {
         ensures { result ≡ count_by begins self.now.events }
     {
         self.entered
+    }
+}
+
+// Copies sessions, in room that is there.
+fn copy_sessions(sessions: &Vec<Session>, copies: &mut Vec<Session>)
+    requires { vec_len sessions.now ≤ vec_capacity copies.old }
+    ensures items { copies.new.items ≡ sessions.now.items }
+    ensures capacity { vec_capacity copies.old ≤ vec_capacity copies.new }
+{
+    copies.clear();
+    for i in 0..sessions.len() {
+        let Ok(()) = copies.push(sessions[i]) else {
+            unreachable!()
+        };
     }
 }
 
