@@ -27,6 +27,7 @@ use Rattle.sia_records.specs.HostRecords.{host_record}
 use Rattle.sia_records.specs.Stored.{step_of}
 use Rattle.sia_commands.specs.declared.step.Room.{Room}
 use Rattle.sia_kept.specs.State.{Kept, contract_among, is_among, is_free_slot, live_slots, roots_of, with_record}
+use Rattle.sia_host.specs.declared.phase.Phase.TheVariants as phase
 use Rattle.sia_host.specs.Paying.{Payment, is_late, is_low, paid_revision, signs_revision, was_cleared}
 use Rattle.sia_host.specs.Answered.{Host, record_payload}
 
@@ -143,9 +144,9 @@ pub record IsPayload (payload : List ℕ) (made : HostRecord) : Type 0 where
   pub fits : host_record.fits (length payload) made
   pub whole : payload ≡ record_payload made
 
--- a host with a record more; its events stay
+-- a host that has a record more by its journal: its events stay, and no step is to be taken back any more
 abbrev pub with_made : Host → HostRecord → Host
-with_made h made = record h { state = with_record h.settings.host_key h.state made }
+with_made h made = record h { state = with_record h.settings.host_key h.state made; phase = phase.Settled }
 
 -- A record is replayed so: the answer is whether it follows; then the host knows it, and else all is as before.
 pub record IsReplayed (accepts : List ℕ → List ℕ → List ℕ → Bool) (h : Host) (made : HostRecord) (follows : Bool) (after : Host) : Type 0 where

@@ -1,10 +1,12 @@
 //! Formations that are replayed.
-ghost use Rattle.std.specs.Prelude.{◌≡◌, true, All, IfOk, OnErr};
+ghost use Rattle.std.specs.Prelude.{◌≡◌, false, IfOk, OnErr};
 ghost use Rattle.sia_records.specs.declared.host_record.HostRecord.TheVariants as records;
+ghost use Rattle.sia_host.specs.Spoiling.{is_spoiled};
 ghost use Rattle.sia_host.specs.Replaying.{IsReplayed, begins_so, formed_replays, has_coins_alone as has_coins_alone_so, is_new as is_new_so};
 
 use crate::feeding::judge_set;
 use crate::host_core::Core;
+use crate::phase::Phase;
 use sia_blake::Hash;
 use sia_edge::SigCheck;
 use sia_forms::{begins_with, both_address, pays_parties};
@@ -26,6 +28,7 @@ impl Core {
         tx: Transaction,
         check: &C,
     ) -> Result<bool, AllocError>
+        requires { is_spoiled self.old.phase ≡ false }
         ensures gives { IfOk result (λ follows. IsReplayed C.verdict self.old (records.Formed renter_key.now tx) follows self.new) }
         ensures kept { OnErr result (self.new ≡ self.old) }
     {
@@ -35,6 +38,7 @@ impl Core {
         let kept = KeptContract::formed(alloc, &self.settings.host_key, renter_key, tx)?;
         push_kept(&mut self.contracts, kept)?;
         self.records = self.records.saturating_add(1);
+        self.phase = Phase::Settled;
         Ok(true)
     }
 

@@ -1,11 +1,13 @@
 //! Records of the host's journal that are replayed: each is judged on what the host knows by the records before it.
-ghost use Rattle.std.specs.Prelude.{◌≡◌, ℕ, Bool, List as Sequence, MatchOption, IfOk, OnErr};
+ghost use Rattle.std.specs.Prelude.{◌≡◌, ℕ, Bool, List as Sequence, false, MatchOption, IfOk, OnErr};
 ghost use Rattle.sia_records.specs.declared.host_record.HostRecord.{HostRecord as Made};
 ghost use Rattle.sia_records.specs.declared.host_record.HostRecord.TheVariants as records;
+ghost use Rattle.sia_host.specs.Spoiling.{is_spoiled};
 ghost use Rattle.sia_host.specs.Replaying.{IsPayload, IsReplayed, ReplaysPayload};
 
 use crate::feeding::{drop_block, put_block};
 use crate::host_core::Core;
+use crate::phase::Phase;
 use sia_edge::SigCheck;
 use sia_kept::SignedRevision;
 use sia_records::HostRecord;
@@ -14,8 +16,8 @@ use std::alloc::{AllocError, Global};
 
 impl Core {
     /// Whether a payload of the journal is a record, spelled whole and without a rest, that follows on what the host knows: some command
-    /// would make it, whatever the settings and the room of that day. Then the host knows it too, and its events stay. Else all is
-    /// as before. The check judges signatures.
+    /// would make it, whatever the settings and the room of that day. Then the host knows it too, and its events stay; no step is to be
+    /// taken back any more. Else all is as before. The check judges signatures.
     ///
     /// Its error is want of memory: then all is as before.
     pub fn replay<C: SigCheck>(
@@ -24,6 +26,7 @@ impl Core {
         payload: &[u8],
         check: &C,
     ) -> Result<bool, AllocError>
+        requires { is_spoiled self.old.phase ≡ false }
         ensures replays { IfOk result (λ follows. ReplaysPayload C.verdict self.old payload.now follows self.new) }
         ensures unchanged { OnErr result (self.new ≡ self.old) }
     {
@@ -40,6 +43,7 @@ impl Core {
         made: HostRecord,
         check: &C,
     ) -> Result<bool, AllocError>
+        requires { is_spoiled self.old.phase ≡ false }
         ensures gives { IfOk result (λ follows. IsReplayed C.verdict self.old made follows self.new) }
         ensures kept { OnErr result (self.new ≡ self.old) }
     {
@@ -76,6 +80,7 @@ impl Core {
         block: &Block,
         check: &C,
     ) -> Result<bool, AllocError>
+        requires { is_spoiled self.old.phase ≡ false }
         ensures gives { IfOk result (λ follows. IsReplayed C.verdict self.old (records.Block block.now) follows self.new) }
         ensures kept { OnErr result (self.new ≡ self.old) }
     {
@@ -83,6 +88,7 @@ impl Core {
             Some(_) => Ok(false),
             None => {
                 self.records = self.records.saturating_add(1);
+                self.phase = Phase::Settled;
                 Ok(true)
             }
         }
@@ -91,6 +97,7 @@ impl Core {
     // Whether the chain has a last block to drop; then it is dropped.
     #[tactic(auto, unfolding(crate::specs::Replaying::replays, sia_kept::specs::State::with_record))]
     fn replay_revert(&mut self) -> Result<bool, AllocError>
+        requires { is_spoiled self.old.phase ≡ false }
         ensures gives { IfOk result (λ follows. (accepts : Sequence ℕ → Sequence ℕ → Sequence ℕ → Bool) → IsReplayed accepts self.old records.Revert follows self.new) }
         ensures kept { OnErr result (self.new ≡ self.old) }
     {
@@ -99,6 +106,7 @@ impl Core {
         }
         drop_block(&mut self.ledger)?;
         self.records = self.records.saturating_add(1);
+        self.phase = Phase::Settled;
         Ok(true)
     }
 }

@@ -7,10 +7,12 @@ ghost use Rattle.sia_records.specs.declared.host_record.HostRecord.TheVariants a
 ghost use Rattle.sia_records.specs.Stored.{step_of};
 ghost use Rattle.sia_kept.specs.State.{IsStored, Kept, contract_among, revised_contract};
 ghost use Rattle.sia_host.specs.Paying.{Payment, paid_revision as paid_revision_so};
+ghost use Rattle.sia_host.specs.Spoiling.{is_spoiled};
 ghost use Rattle.sia_host.specs.Replaying.{IsReplayed, changes_fit as changes_fit_so, expected as expected_so, payment_in, revises_contract};
 
 use crate::host_core::Core;
 use crate::paying::{is_low, was_cleared};
+use crate::phase::Phase;
 use crate::revising::{paid_revision, signs_revision};
 use crate::same_revision::is_same_revision;
 use sia_blake::Hash;
@@ -41,6 +43,7 @@ impl Core {
         signed: SignedRevision,
         check: &C,
     ) -> Result<bool, AllocError>
+        requires { is_spoiled self.old.phase ≡ false }
         ensures gives { IfOk result (λ follows. IsReplayed C.verdict self.old (records.Revised signed.revision signed.renter signed.host signed.changes) follows self.new) }
         ensures kept { OnErr result (self.new ≡ self.old) }
     {
@@ -49,6 +52,7 @@ impl Core {
         }
         revise_kept(alloc, &mut self.contracts, signed)?;
         self.records = self.records.saturating_add(1);
+        self.phase = Phase::Settled;
         Ok(true)
     }
 
