@@ -5,6 +5,8 @@ use Rattle.std.specs.List.{filter, find}
 use Rattle.std.specs.Option.{option_map, option_map_or}
 use Rattle.std.proofs.lemmas.Bool.{eqb-false, leb-true}
 use Rattle.std.proofs.lemmas.List.{length-map}
+use Rattle.std.proofs.lemmas.List.Elements.{All-cons, All-head, All-nil, All-tail}
+use Rattle.std.proofs.Math.Nat.{mul-zero}
 use Rattle.std.specs.Str.{bytes_eq}
 use Rattle.sia_merkle.specs.Roots.{leaf_count}
 use Rattle.sia_prover.specs.Proofs.{chosen_leaf, sector_proof}
@@ -59,10 +61,10 @@ lesser_fits P id y (Some other) x here later is = choose (is_up_to (id y) (id ot
 least_fits : {X : Type 0} (P : X → Type 0) (id : X → List ℕ) (fits : X → Bool) (xs : List X) (x : X) → All (λ y. fits y ≡ true → P y) xs → least_by id fits xs ≡ Some x → P x
 unfolding least_by
 least_fits P id fits [] x all is = (cc)
-least_fits P id fits (y ∷ ys) x all is = by (fits y) refl (least_fits P id fits ys x all.1) is
+least_fits P id fits (y ∷ ys) x all is = by (fits y) refl (least_fits P id fits ys x (All-tail (λ z. fits z ≡ true → P z) y ys all)) is
   where
     by : (b : Bool) → fits y ≡ b → (least_by id fits ys ≡ Some x → P x) → (if b then lesser id y (least_by id fits ys) else least_by id fits ys) ≡ Some x → P x
-    by true fit later is = lesser_fits P id y (least_by id fits ys) x (all.0 fit) later is
+    by true fit later is = lesser_fits P id y (least_by id fits ys) x (All-head (λ z. fits z ≡ true → P z) y ys all fit) later is
     by false fit later is = later is
 
 and_left : (a b : Bool) → (a && b) ≡ true → a ≡ true
@@ -71,8 +73,10 @@ and_left false b is = (cc)
 
 -- each is due where it fits, and stores what it has
 each_due : (h : Host) (p : Kept → Bool) (xs : List Kept) → All (IsStored h.settings.sector) xs → All (λ c. (is_due h c && p c) ≡ true → (is_due h c ≡ true) × IsStored h.settings.sector c) xs
-each_due h p [] all = tt
-each_due h p (c ∷ cs) all = ((λ fit. (and_left (is_due h c) (p c) fit, all.0)), each_due h p cs all.1)
+each_due h p [] all = All-nil (λ c. (is_due h c && p c) ≡ true → (is_due h c ≡ true) × IsStored h.settings.sector c)
+each_due h p (c ∷ cs) all =
+    All-cons (λ k. (is_due h k && p k) ≡ true → (is_due h k ≡ true) × IsStored h.settings.sector k) c cs
+    (λ fit. (and_left (is_due h c) (p c) fit, All-head (IsStored h.settings.sector) c cs all)) (each_due h p cs (All-tail (IsStored h.settings.sector) c cs all))
 
 -- the next due contract is due, and stores what it has
 pub next_is_due : (h : Host) (id : List ℕ) (first : Bool) (c : Kept) → All (IsStored h.settings.sector) h.state.contracts → next_after id first (due_contracts h) ≡ Some c → (is_due h c ≡ true) × IsStored h.settings.sector c
@@ -103,7 +107,7 @@ due_has h c terms due stored =
   where
     some : (n : ℕ) → length c.sectors ≡ n → 0 < h.settings.sector * length c.sectors → 0 < n
     some zero none above =
-        let none_stored : h.settings.sector * length c.sectors ≡ 0 = ap (λ n. h.settings.sector * n) none ∙ *-zero h.settings.sector in
+        let none_stored : h.settings.sector * length c.sectors ≡ 0 = ap (λ n. h.settings.sector * n) none ∙ mul-zero h.settings.sector in
         absurd (omega (arith, above, none_stored))
     some (suc n) many above = omega arith
 

@@ -2,6 +2,8 @@
 use Rattle.std.proofs.Common.{◌≡◌, ◌∙◌, ◌+◌, ◌*◌, ◌≤◌, ◌==◌, ◌&&◌, ℕ, Bool, true, false, not, List, [], ◌∷◌, ◌++◌, All, length, Result, Ok, Err, refl, sym, subst, ap, arith}
 use Rattle.std.specs.Str.{bytes_eq}
 use Rattle.std.proofs.lemmas.Bool.{eqb-true}
+use Rattle.std.proofs.lemmas.List.Elements.{All-cons, All-nil}
+use Rattle.std.proofs.Math.Nat.{mul-zero}
 use Rattle.sia_encoding.specs.Answer.{◌>>=◌, unless}
 use Rattle.sia_encoding.specs.Firsts.{broken, ◌or_else◌}
 use Rattle.sia_merkle.specs.Roots.{node_root_of}
@@ -95,7 +97,7 @@ no_root = refl
 -- a contract that stores nothing
 pub empty_stored : (sector : ℕ) (host_key renter_key : List ℕ) (tx : Transaction) (terms : FileContract) → terms.size ≡ 0 → terms.root ≡ zero_hash → IsStored sector (new_contract host_key renter_key tx [] terms)
 unfolding new_contract first_revision
-empty_stored sector host_key renter_key tx terms size root = record { parent = refl; few = omega arith; size = size ∙ sym (*-zero sector); root = root ∙ sym no_root }
+empty_stored sector host_key renter_key tx terms size root = record { parent = refl; few = omega arith; size = size ∙ sym (mul-zero sector); root = root ∙ sym no_root }
 
 -- the contract of a formation that is answered with what the host adds stores nothing yet
 pub formed_stored : (h : Host) (session : ℕ) (request : FormRequest) (added : Additions) (sector : ℕ) (host_key : List ℕ) (whole : Transaction)
@@ -108,7 +110,7 @@ formed_stored h session request added sector host_key whole = by (form_judged h 
     by (Err code) at is same = elim is [ ]
     by (Ok collateral) at is same =
         let begun = judged_begins h session request collateral at in
-        subst (λ cs. All (IsStored sector) (formed_by host_key request.renter_key whole [] cs)) (sym (same ∙ begun.one)) (empty_stored sector host_key request.renter_key whole begun.terms begun.size begun.root, tt)
+        subst (λ cs. All (IsStored sector) (formed_by host_key request.renter_key whole [] cs)) (sym (same ∙ begun.one)) (All-cons (IsStored sector) (new_contract host_key request.renter_key whole [] begun.terms) [] (empty_stored sector host_key request.renter_key whole begun.terms begun.size begun.root) (All-nil (IsStored sector)))
 
 -- the whole transaction has its contracts
 pub whole_contracts : (tx : Transaction) (added : Additions) (renter host : List Signature) (whole : Transaction) → whole ≡ finished tx added renter host → whole.contracts ≡ tx.contracts

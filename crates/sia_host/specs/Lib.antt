@@ -14,6 +14,7 @@ pub mod Fetching
 pub mod Reading
 pub mod Renewing
 pub mod Jobs
+pub mod Reporting
 pub mod Replaying
 pub mod Marks
 pub mod Least

@@ -45,8 +45,8 @@ told_by (phase.Stepped past) present = present
 told_by (phase.Spoiled past) present = past
 
 -- what is told of a host
-abbrev pub told_of : Host → Past
-told_of h = told_by h.phase (past_of h)
+abbrev pub told_now : Host → Past
+told_now h = told_by h.phase (past_of h)
 
 -- the event of a disk's fault: it has the worker and the session of the command that met it
 abbrev pub fault_event : Past → Event → Event

@@ -8,7 +8,7 @@ ghost use Rattle.sia_commands.specs.declared.reply.Reply.TheVariants as reply;
 ghost use Rattle.sia_kept.specs.State.{Kept, first_state};
 ghost use Rattle.sia_host.specs.Answered.{IsReaction, Host, answered, contract_now, event_of, held_now, idle_now, refused, settings_now};
 ghost use Rattle.sia_host.specs.declared.phase.Phase.TheVariants as phase;
-ghost use Rattle.sia_host.specs.Spoiling.{past_of, told_of};
+ghost use Rattle.sia_host.specs.Spoiling.{past_of, told_now};
 ghost use Rattle.sia_host.specs.Beginning.{core_told};
 ghost use Rattle.sia_host.specs.Refusals.{code_told};
 
@@ -88,28 +88,28 @@ impl Core {
 
     /// What the chain holds; once a step was taken back, what it held before that step.
     pub fn sums(&self) -> Sums
-        ensures { result ≡ (told_of self.now).sums }
+        ensures { result ≡ (told_now self.now).sums }
     {
         self.told().sums
     }
 
     /// The identifier of the chain's last block; once a step was taken back, of the last one before that step.
     pub fn tip(&self) -> Hash
-        ensures { result ≡ (told_of self.now).tip }
+        ensures { result ≡ (told_now self.now).tip }
     {
         self.told().tip
     }
 
     /// How many records the host has kept, as far as a number of 64 bits goes; once a step was taken back, before that step.
     pub fn records(&self) -> u64
-        ensures { result ≡ (told_of self.now).records }
+        ensures { result ≡ (told_now self.now).records }
     {
         self.told().records
     }
 
     // What is told of the chain and the records.
     fn told(&self) -> Past
-        ensures { result ≡ told_of self.now }
+        ensures { result ≡ told_now self.now }
     {
         match self.phase {
             Phase::Settled => self.present(),

@@ -50,6 +50,7 @@ mod proposals;
 mod reading;
 mod refusal;
 mod replaying;
+mod report;
 mod revising;
 mod revising_again;
 mod same_revision;
@@ -60,6 +61,7 @@ mod writing;
 pub use config::{CoreConfig, CoreFault};
 pub use host_core::Core;
 pub use phase::{Past, Phase};
+pub use report::ReportRow;
 pub use sia_commands::{
     AskedProof, Call, Command, Event, Kind, OutJob, Outcome, PutJob, Reply, Room, Step, Want,
     codes, fill_reply, finish_job,

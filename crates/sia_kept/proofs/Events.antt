@@ -101,7 +101,7 @@ room_few (event ∷ events) false = omega arith
 -- and one where there are events
 pub room_one : (events : List Event) → 0 < length events → room_back events false ≡ 1
 room_one [] some = absurd (omega (arith, some))
-room_one (event ∷ events) some = refl
+room_one (event ∷ events) some = omega arith
 
 pub room_same : (events more : List Event) (spoiled : Bool) → 0 < length events → 0 < length more → room_back more spoiled ≡ room_back events spoiled
 room_same events more true some many = refl

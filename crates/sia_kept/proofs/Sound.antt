@@ -5,7 +5,8 @@ use Rattle.std.specs.List.{filter, range_with_len}
 use Rattle.std.specs.Option.{option_to_list}
 use Rattle.std.specs.Str.{bytes_eq}
 use Rattle.std.proofs.lemmas.List.{append-nil}
-use Rattle.std.proofs.lemmas.List.Elements.{All-append}
+use Rattle.std.proofs.lemmas.Bool.{le-leb}
+use Rattle.std.proofs.lemmas.List.Elements.{All-append, All-cons, All-head, All-nil, All-tail}
 use Rattle.sia_encoding.specs.declared.limits.TheConstants.{CONTRACT_SECTORS, TOUCHED_PLACES}
 use Rattle.sia_diff.specs.DiffSteps.{counted_steps, is_fit, is_touched, touch_count, touched_places}
 use Rattle.sia_ids.specs.Transactions.{contract_id}
@@ -39,15 +40,15 @@ sound_formed sector host_key renter_key tx old new kept sound none stores is gro
 -- each contract stores what it has, where the one that is changed does
 stored_changed : (sector : ℕ) (id : List ℕ) (f : Kept → Kept) (xs : List Kept) → AreApart xs → All (IsStored sector) xs
     → ((c : Kept) → contract_among id xs ≡ Some c → IsStored sector (f c)) → All (IsStored sector) (changed_at id f xs)
-stored_changed sector id f [] are all so = tt
-stored_changed sector id f (x ∷ xs) are all so = cases (bytes_eq x.id id) refl (stored_changed sector id f xs are.1 all.1) so
+stored_changed sector id f [] are all so = All-nil (IsStored sector)
+stored_changed sector id f (x ∷ xs) are all so = cases (bytes_eq x.id id) refl (stored_changed sector id f xs are.1 (All-tail (IsStored sector) x xs all)) so
   where
     cases : (b : Bool) → bytes_eq x.id id ≡ b → (((c : Kept) → contract_among id xs ≡ Some c → IsStored sector (f c)) → All (IsStored sector) (changed_at id f xs))
         → ((c : Kept) → (if b then Some x else contract_among id xs) ≡ Some c → IsStored sector (f c)) → All (IsStored sector) ((if b then f x else x) ∷ changed_at id f xs)
     cases true at rest so =
         let none : is_among id xs ≡ false = subst (λ z. is_among z xs ≡ false) (same_bytes x.id id at) are.0 in
-        (so x refl, subst (λ ys. All (IsStored sector) ys) (sym (unchanged id f xs none)) all.1)
-    cases false at rest so = (all.0, rest so)
+        All-cons (IsStored sector) (f x) (changed_at id f xs) (so x refl) (subst (λ ys. All (IsStored sector) ys) (sym (unchanged id f xs none)) (All-tail (IsStored sector) x xs all))
+    cases false at rest so = All-cons (IsStored sector) x (changed_at id f xs) (All-head (IsStored sector) x xs all) (rest so)
 
 -- a host stays sound with a revision that stores what it makes of its contract's sectors
 pub sound_revised : (sector : ℕ) (revision : Revision) (renter host : List ℕ) (changes : List Change) (old : List Kept) → IsSound sector old
@@ -60,10 +61,10 @@ sound_revised sector revision renter host changes old sound so =
 -- the contract that is found stores what it has
 pub found_stores : (sector : ℕ) (id : List ℕ) (xs : List Kept) (c : Kept) → All (IsStored sector) xs → contract_among id xs ≡ Some c → IsStored sector c
 found_stores sector id [] c all is = (cc)
-found_stores sector id (x ∷ xs) c all is = cases (bytes_eq x.id id) (found_stores sector id xs c all.1) is
+found_stores sector id (x ∷ xs) c all is = cases (bytes_eq x.id id) (found_stores sector id xs c (All-tail (IsStored sector) x xs all)) is
   where
     cases : (b : Bool) → (contract_among id xs ≡ Some c → IsStored sector c) → (if b then Some x else contract_among id xs) ≡ Some c → IsStored sector c
-    cases true later is = let same : x ≡ c = (cc) in subst (λ k. IsStored sector k) same all.0
+    cases true later is = let same : x ≡ c = (cc) in subst (λ k. IsStored sector k) same (All-head (IsStored sector) x xs all)
     cases false later is = later is
 
 -- a revision that changes no sector
@@ -76,7 +77,7 @@ none_touched count (place ∷ places) = none_touched count places
 -- no change is fit
 pub nothing_fits : (count : ℕ) → count ≤ CONTRACT_SECTORS → is_fit count [] ≡ true
 unfolding is_fit counted_steps touched_places
-nothing_fits count few = rw (leb-complete count CONTRACT_SECTORS few) (ap (λ places. nat_le (length places) TOUCHED_PLACES) (none_touched count (range_with_len 0 count)))
+nothing_fits count few = rw (le-leb count CONTRACT_SECTORS few) (ap (λ places. nat_le (length places) TOUCHED_PLACES) (none_touched count (range_with_len 0 count)))
 
 -- what stores the sectors stores them after no change
 pub stored_same : (sector : ℕ) (revision : Revision) (renter host : List ℕ) (c : Kept) → IsStored sector (record c { newest = revision }) → IsStored sector (revised_contract revision renter host [] c)

@@ -10,3 +10,6 @@ returns-in-Some-clause-ok c =
 
 pub returns-in-None-clause-ok : goal.returns-in-None-clause-ok
 returns-in-None-clause-ok c = unfound c.args.signed.revision.parent (revised_contract c.args.signed.revision c.args.signed.renter c.args.signed.host c.args.signed.changes) c.args.contracts.now (sym c.in-None.ensures)
+
+pub revise_at-requires-clause-fit : goal.revise_at-requires-clause-fit
+revise_at-requires-clause-fit c = (λ d. fit_found c.args.signed.revision c.args.signed.changes c.args.contracts.now c.in-Some.place d c.requires.apart (sym c.in-Some.ensures) c.requires.fit)

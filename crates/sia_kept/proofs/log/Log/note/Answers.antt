@@ -12,7 +12,7 @@ invariant_of-self c =
     let spare : 1 ≤ c.self.inside.spare = rw (← c.self.view_is) at c.requires in (
       noted c.self.inside.seed _ _ _ _ _ _ kept.0 place c.follow.ensures.items c.in-Ok.ensures.items,
       counted _ _ _ _ _ kept.1 c.begun.ensures c.in-Ok.ensures.items,
-      omega (arith, kept.2, spare, room_few c.in-Ok.new.events.items c.self.inside.spoiled, c.in-Ok.ensures.len, c.in-Ok.ensures.capacity, c.follow.ensures.more),
+      omega (arith, kept.2, spare, room_few c.push.new.self.items c.self.inside.spoiled, c.in-Ok.ensures.len, c.in-Ok.ensures.capacity, c.follow.ensures.more),
       omega (arith, kept.3, spare, c.follow.ensures.more, c.follow.ensures.capacity),
       omega (arith, kept.4, spare, c.follow.ensures.more, c.copy_sessions.ensures.capacity),
       omega (arith, kept.3, ap length c.copy_sessions.ensures.items, c.follow.ensures.capacity),
