@@ -4,6 +4,7 @@ use Rattle.std.specs.Prelude.{nat_le}
 use Rattle.std.specs.Option.{is_none}
 use Rattle.std.proofs.lemmas.Bool.{eqb-true}
 use Rattle.std.proofs.lemmas.List.{length-map}
+use Rattle.std.proofs.lemmas.List.Elements.{All-cons, All-nil}
 use Rattle.sia_encoding.specs.declared.limits.TheConstants.{ACTIONS}
 use Rattle.sia_merkle.specs.Roots.{node_root_of}
 use Rattle.sia_diff.specs.DiffSteps.{after, count_after, is_fit}
@@ -22,7 +23,7 @@ use Rattle.sia_ledger.specs.Refusal.{set_refusal}
 use Rattle.sia_records.specs.declared.change.Change.{Change}
 use Rattle.sia_records.specs.Stored.{step_of, stored_after}
 use Rattle.sia_records.proofs.Roots.{roots_after}
-use Rattle.sia_kept.specs.State.{Kept, IsSound, IsStored, contract_among, formed_by, is_among, revised_contract, root_in, roots_of}
+use Rattle.sia_kept.specs.State.{Kept, IsSound, IsStored, contract_among, formed_by, is_among, new_contract, revised_contract, root_in, roots_of}
 use Rattle.sia_kept.proofs.Apart.{found_id}
 use Rattle.sia_kept.proofs.Sound.{found_stores, stored_same}
 use Rattle.sia_host.specs.Answered.{Host}
@@ -57,7 +58,7 @@ formed_stores accepts h renter_key tx sector host_key is =
         let address = both_address renter_key h.settings.host_key in
         let begun = nothing_yet tx address c one (left_of_and (begins_with 0 zero_hash address c) (pays_parties h.settings 0 c.valid c.missed) begins) in
         let same : (c ∷ []) ≡ (begun.terms ∷ []) = sym one ∙ begun.one in
-        subst (λ cs. All (IsStored sector) (formed_by host_key renter_key tx [] cs)) (sym same) (empty_stored sector host_key renter_key tx begun.terms begun.size begun.root, tt)
+        subst (λ cs. All (IsStored sector) (formed_by host_key renter_key tx [] cs)) (sym same) (All-cons (IsStored sector) (new_contract host_key renter_key tx [] begun.terms) [] (empty_stored sector host_key renter_key tx begun.terms begun.size begun.root) (All-nil (IsStored sector)))
     by (c ∷ other ∷ more) one begins = (cc)
 
 -- revisions
