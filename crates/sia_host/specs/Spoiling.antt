@@ -1,6 +1,6 @@
 -- A step that is taken back, since a disk failed: the event of the fault stands in the place of the step's own, and what is told of the
 -- chain and of the records is what was told before the step. Nothing of Sia stands here.
-use Rattle.std.specs.Prelude.{◌≡◌, ℕ, ◌-◌, Bool, true, false, List, ◌++◌, length, map, drop, Option, Some, None}
+use Rattle.std.specs.Prelude.{◌≡◌, ℕ, ◌-◌, ◌<◌, Bool, true, false, List, ◌++◌, length, map, drop, Option, Some, None}
 use Rattle.sia_ledger.specs.declared.sums.Sums.{Sums}
 use Rattle.sia_ledger.specs.Holdings.{sums_of, tip}
 use Rattle.sia_commands.specs.declared.event.Event.{Event}
@@ -18,6 +18,12 @@ abbrev pub is_spoiled : Phase → Bool
 is_spoiled phase.Settled = false
 is_spoiled (phase.Stepped past) = false
 is_spoiled (phase.Spoiled past) = true
+
+-- a step that can be taken back has noted an event
+abbrev pub HasLast : Phase → List Event → Type 0
+HasLast phase.Settled events = Unit {0}
+HasLast (phase.Stepped past) events = 0 < length events
+HasLast (phase.Spoiled past) events = Unit {0}
 
 -- what is told of a host before a step
 abbrev pub past_of : Host → Past

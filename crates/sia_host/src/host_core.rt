@@ -38,18 +38,16 @@ pub struct Core {
 }
 
 impl Model for Core {
-    ghost use Rattle.std.specs.Prelude.{◌≡◌, ◌<◌, length};
+    ghost use Rattle.std.specs.Prelude.{◌≡◌};
     ghost use Rattle.sia_kept.specs.State.{IsSound};
-    ghost use Rattle.sia_host.specs.declared.phase.Past.{Past};
-    ghost use Rattle.sia_host.specs.declared.phase.Phase.TheVariants as phase;
     ghost use Rattle.sia_host.specs.Answered.{Host};
-    ghost use Rattle.sia_host.specs.Spoiling.{is_spoiled};
+    ghost use Rattle.sia_host.specs.Spoiling.{HasLast, is_spoiled};
 
     ghost Value = { Host };
 
     ghost view = { λ c. record { settings = c.settings; margin = c.margin; seed = c.log.seed; state = record { chain = c.ledger; contracts = c.contracts; count = c.records }; events = c.log.events; phase = c.phase } };
 
-    ghost invariant = { λ c. IsSound c.settings.sector c.contracts × (c.log.spoiled ≡ is_spoiled c.phase) × ((past : Past) → c.phase ≡ phase.Stepped past → 0 < length c.log.events) };
+    ghost invariant = { λ c. IsSound c.settings.sector c.contracts × (c.log.spoiled ≡ is_spoiled c.phase) × HasLast c.phase c.log.events };
 }
 
 impl Core {

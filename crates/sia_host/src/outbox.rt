@@ -14,7 +14,7 @@ use crate::revising::revision_alone;
 use sia_blake::Hash;
 use sia_commands::{AskedProof, Call, Kind, OutJob, Outcome, Reply, Step};
 use sia_kept::{KeptContract, Sector, Sectors, whole_signature};
-use sia_types::{Blob, List, Revision, Terms, Transaction};
+use sia_types::{Blob, Item, List, Revision, Terms, Transaction};
 use std::alloc::{AllocError, Global};
 
 /// A stale contract, and what it is to be mined by.

@@ -1,5 +1,5 @@
 //! The answer to each command, and a step that is taken back.
-ghost use Rattle.std.specs.Prelude.{◌≡◌, ◌×◌, ◌+◌, true, false, length, IfOk, OnErr};
+ghost use Rattle.std.specs.Prelude.{◌≡◌, ◌+◌, true, false, length, IfOk, OnErr};
 ghost use Rattle.sia_host.specs.declared.phase.Past.{Past as Before};
 ghost use Rattle.sia_host.specs.declared.phase.Phase.TheVariants as phase;
 ghost use Rattle.sia_host.specs.Answered.{Gives};
