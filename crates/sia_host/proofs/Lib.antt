@@ -16,3 +16,7 @@ pub mod Marking
 pub mod Spelled
 pub mod Payloads
 pub mod Replayed
+pub mod FormedOut
+pub mod RevisedOut
+pub mod CommandsOut
+pub mod WrittenOut

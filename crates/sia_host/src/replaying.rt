@@ -116,8 +116,12 @@ fn record_in(alloc: Global, payload: &[u8]) -> Result<Option<HostRecord>, AllocE
     ensures { IfOk result (λ found. MatchOption found ((made : Made) → ¬ IsPayload payload.now made) (IsPayload payload.now)) }
 {
     match HostRecord::decode(alloc, payload, payload.len() as u64) {
-        Err(DecodeFault::Memory) => Err(AllocError),
-        Err(_) => Ok(None),
+        Err(fault) => {
+            if fault == DecodeFault::Memory {
+                return Err(AllocError);
+            }
+            Ok(None)
+        }
         Ok((made, taken)) => {
             if taken != payload.len() as u64 {
                 return Ok(None);
