@@ -50,6 +50,9 @@ def check_configurations(folder):
         "no siafunds": (b"", "config chain.siafund"),
         "a maturity of 0": (b"[chain]\nmaturity = 0\n" + fund % (zero, 10000), "config chain.maturity"),
         "siafunds that sum to 9,999": (fund % (zero, 9999), "config chain.siafund"),
+        "a sector of too many bytes": (b"[chain]\nsector_exp = 17\n" + fund % (zero, 10000), "config chain.sector_exp"),
+        "an amount with a leading zero": (b"host.base = '01'\n" + fund % (zero, 10000), "config host.base"),
+        "a short file limit": (b"renter.file_limit = 1023\n" + fund % (zero, 10000), "config renter.file_limit"),
     }
     for name, (text, case) in refused.items():
         check_refused(f"a configuration with {name}", ["ledger", of("refused.toml", text), feed], case)

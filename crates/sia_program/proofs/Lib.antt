@@ -1,10 +1,6 @@
-pub mod Documents
 pub mod EntryLines
 pub mod Feeds
-pub mod Founding
 pub mod HashLines
-pub mod Numbers
 pub mod ProofSoaked
-pub mod Siafunds
 pub mod Soaked
 pub mod Tellings

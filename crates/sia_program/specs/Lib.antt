@@ -1,6 +1,5 @@
 pub mod Answer
 pub mod Commands
-pub mod Config
 pub mod Faults
 pub mod Feed
 pub mod Fields

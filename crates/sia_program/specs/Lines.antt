@@ -1,9 +1,8 @@
 -- What is printed: ASCII lines that end with a line feed. Numbers are decimal, hashes 64 lower-case hexadecimal digits. Here stand
 -- the lines that commands share; those of one command stand with it.
 use Rattle.std.specs.Prelude.{ℕ, ◌+◌, List, [], ◌++◌, codes, decimal}
+use Rattle.sia_config.specs.Key.{key_text}
 use Rattle.sia_program.specs.Faults.{block_fault_text}
-use Rattle.sia_program.specs.declared.config.ConfigKey.{ConfigKey}
-use Rattle.sia_program.specs.declared.config.ConfigKey.TheVariants as key
 use Rattle.sia_program.specs.declared.stop.Refusal.{Refusal}
 use Rattle.sia_program.specs.declared.stop.Refusal.TheVariants as refusal
 use Rattle.sia_program.specs.declared.stop.Stop.{Stop}
@@ -12,11 +11,6 @@ use Rattle.sia_program.specs.declared.stop.Stop.TheVariants as stop
 -- a name and its value
 unfoldable pub line : List ℕ → List ℕ → List ℕ
 line name value = name ++ (codes " " ++ (value ++ codes "\n"))
-
--- a key of the configuration, behind its table
-abbrev pub key_text : ConfigKey → List ℕ
-key_text key.Maturity = codes "chain.maturity"
-key_text key.Siafund = codes "chain.siafund"
 
 -- what was refused; a block stands one above the tip
 unfoldable pub refusal_text : Refusal → List ℕ

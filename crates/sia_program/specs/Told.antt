@@ -3,20 +3,14 @@
 use Rattle.std.specs.Prelude.{ℕ, Option, Some, None, Result, Ok, Err}
 use Rattle.sia_encoding.specs.declared.fault.DecodeFault.{DecodeFault}
 use Rattle.sia_encoding.specs.declared.fault.DecodeFault.TheVariants as decode_fault
-use Rattle.sia_program.specs.declared.config.ConfigFault.{ConfigFault}
-use Rattle.sia_program.specs.declared.config.ConfigFault.TheVariants as config_fault
+use Rattle.sia_config.specs.declared.fault.ConfigFault.{ConfigFault}
+use Rattle.sia_config.specs.declared.fault.ConfigFault.TheVariants as config_fault
 use Rattle.sia_program.specs.declared.stop.Refusal.{Refusal}
 use Rattle.sia_program.specs.declared.stop.Refusal.TheVariants as refusal
 use Rattle.sia_program.specs.declared.stop.Fault.{Fault}
 use Rattle.sia_program.specs.declared.stop.Fault.TheVariants as fault
 use Rattle.sia_program.specs.declared.stop.Stop.{Stop}
 use Rattle.sia_program.specs.declared.stop.Stop.TheVariants as stop
-
--- the refusal that a configuration's fault tells
-abbrev pub config_told : ConfigFault → Option ConfigFault
-config_told config_fault.Text = Some config_fault.Text
-config_told (config_fault.Key key) = Some (config_fault.Key key)
-config_told config_fault.Memory = None
 
 -- the refusal that a fault tells
 abbrev pub refusal_told : Fault → Option Refusal
@@ -61,7 +55,7 @@ config_stop config_fault.Text = stop.Refused refusal.ConfigText
 config_stop (config_fault.Key key) = stop.Refused (refusal.ConfigKey key)
 config_stop config_fault.Memory = stop.Memory
 
--- the parameters of a configuration, or the end of the command
+-- a configuration, or the end of the command
 abbrev pub or_config_refused : {A : Type 0} → Result A ConfigFault → Result A Stop
 or_config_refused (Ok x) = Ok x
 or_config_refused (Err config_fault) = Err (config_stop config_fault)

@@ -1,6 +1,6 @@
 //! The commands of `sia-v1`, from the bytes that come in to the bytes that go out.
 //!
-//! The words, texts, statuses and the configuration are this product's own; the rules behind them are those of the Sia
+//! The words, texts and statuses are this product's own; the rules behind them are those of the Sia
 //! whitepaper and of siad's documentation (doc/Consensus.md, doc/Encoding.md), each named where it is defined. A command is a
 //! module of `commands`, with its definitions in a file of `specs/Commands`: its form, its files, its text and what it gives for
 //! the bytes that it reads.
@@ -25,20 +25,20 @@
 //! - The texts are exact: the sums of a chain ([`sums_text`]), the root of a file with its leaves and bytes ([`root_text`]), the
 //!   hashes that prove a range of its leaves ([`prove_text`]), the fields of a transaction or a block
 //!   ([`transaction_lines`], [`block_lines`]), and the line of each refusal ([`refused_line`]).
-//! - A configuration is read to the chain's parameters or to its first refusal ([`config::read_config`]); an accepted one
-//!   begins a chain that nothing but want of memory refuses. A feed's records are read and done in turn, and the first that
-//!   can't be read or is refused decides ([`take_record`]).
+//! - The whole configuration is judged before the feed is read ([`run_plain`]); an accepted one begins a chain that nothing
+//!   but want of memory refuses. A feed's records are read and done in turn, and the first that can't be read or is refused
+//!   decides ([`take_record`]).
 //! - A refusal of a block holds a rule, and never want of memory ([`BrokenRule`]).
 //!
 //! # Stands on
 //!
 //! `sia_encoding` for the feed's bytes and for how answers are spoken of, `sia_edge` for sources and sinks, `sia_blake` for
 //! hashes, `sia_merkle` for the root of a file, `sia_range` for the proof of a range, `sia_types` for records, `sia_ledger` for the
-//! chain, with `sia_ids` and `sia_rules`, whose definitions the chain's name, and the kit's `toml` and `hex` for the configuration.
+//! chain, with `sia_ids` and `sia_rules`, whose definitions the chain's name, `sia_config` for the configuration, and the kit's
+//! `hex` for printed hashes.
 #![tactic(auto)]
 
 mod commands;
-pub mod config;
 mod entries;
 mod faults;
 mod feed;

@@ -1,8 +1,8 @@
 //! Why a command ends before its work is done.
 ghost use Rattle.std.specs.Prelude.{◌≡◌};
 
-use crate::config::{ConfigFault, ConfigKey};
 use crate::rule::BrokenRule;
+use sia_config::{ConfigFault, ConfigKey};
 use std::alloc::AllocError;
 
 /// What is refused of the configuration or the input.
@@ -10,7 +10,7 @@ use std::alloc::AllocError;
 pub enum Refusal {
     /// The configuration is no TOML document.
     ConfigText,
-    /// The configuration's value at this key.
+    /// The configuration's value at this key, the first that is refused.
     ConfigKey(ConfigKey),
     /// The feed's bytes are no list of records.
     Feed {

@@ -1,24 +1,14 @@
 //! The lines on standard error, and the statuses that go with them.
 ghost use Rattle.std.specs.Prelude.{◌≡◌, IfOk, string_bytes};
 ghost use Rattle.sia_program.specs.Answer.{Tells, TellsReason};
-ghost use Rattle.sia_program.specs.Lines.{key_text, stop_line};
+ghost use Rattle.sia_program.specs.Lines.{stop_line};
 ghost use Rattle.sia_program.specs.Lines.{refusal_text as refusal_text_of};
 ghost use Rattle.sia_program.specs.Streams.{stream};
 
-use crate::config::ConfigKey;
 use crate::faults::rule_text;
 use crate::stop::{Refusal, Stop};
 use sia_edge::{Sink, write_all};
 use std::alloc::{AllocError, Global};
-
-fn key_name(key: ConfigKey) -> &'static str
-    ensures { result.now ≡ key_text key }
-{
-    match key {
-        ConfigKey::Maturity => "chain.maturity",
-        ConfigKey::Siafund => "chain.siafund",
-    }
-}
 
 /// What was refused.
 #[tactic(auto, unfolding(crate::specs::Lines::refusal_text))]
@@ -27,10 +17,7 @@ fn refusal_text(alloc: Global, refusal: &Refusal) -> Result<String, AllocError>
 {
     match refusal {
         Refusal::ConfigText => String::from_str(alloc, "config text"),
-        Refusal::ConfigKey(key) => {
-            let name = key_name(*key);
-            format!(in alloc; "config {name}")
-        }
+        Refusal::ConfigKey(key) => format!(in alloc; "config {key}"),
         Refusal::Feed { at } => format!(in alloc; "feed at {at}"),
         Refusal::Block { tip_height, rule } => {
             let height = u128::from(*tip_height) + 1;

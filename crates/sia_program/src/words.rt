@@ -1,27 +1,16 @@
 //! Numbers among the words of a command.
 ghost use Rattle.std.specs.Prelude.{◌≡◌};
-ghost use Rattle.sia_program.specs.Words.{begins_otherwise, number_of};
+ghost use Rattle.sia_program.specs.Words.{number_of};
 
-/// Whether a sign, or a zero before other digits, stands at the front of a word.
-fn has_sign_or_zeros(word: &[u8]) -> bool
-    ensures { result ≡ begins_otherwise word.now }
-{
-    match word {
-        [b'+', ..] => true,
-        [b'0', _, ..] => true,
-        _ => false,
-    }
-}
+use sia_config::read_decimal;
 
-/// The number that a word is the decimal text of: digits without a leading zero. It is below 2^64.
+/// The number that a word's decimal digits write, without a leading zero. It is below 2^64.
+#[tactic(auto, unfolding(crate::specs::Words::number_of))]
 pub(crate) fn read_number(word: &[u8]) -> Option<u64>
     ensures { result ≡ number_of word.now }
 {
-    if has_sign_or_zeros(word) {
-        return None;
-    }
-    match str::from_utf8(word) {
-        Ok(text) => text.parse::<u64>().ok(),
-        Err(_) => None,
+    match read_decimal(word) {
+        Some(number) => u64::try_from(number).ok(),
+        None => None,
     }
 }

@@ -7,7 +7,7 @@ use std::process::Abort;
 use std::test::Fail;
 
 /// One siafund output of all 10,000, to the zero address.
-const CONFIG: &str =
+pub const CONFIG: &str =
     "[[chain.siafund]]\nto = \"0000000000000000000000000000000000000000000000000000000000000000\"\nvalue = 10000\n";
 
 /// The first block behind the genesis of `CONFIG`, as a record of a feed in hexadecimal digits.
@@ -34,7 +34,7 @@ const AFTER_SECOND: &str =
 const WORDS: [&str; 3] = ["ledger", "CONFIG", "FEED"];
 
 /// A call of `ledger` over these bytes, where no call of the outside fails.
-fn ledger<'a>(config: &'a [u8], feed: &'a [u8]) -> Call<'a> {
+pub fn ledger<'a>(config: &'a [u8], feed: &'a [u8]) -> Call<'a> {
     Call {
         config,
         config_fails: &[],
@@ -103,66 +103,6 @@ fn a_feed_is_applied_or_refused_by_its_first_case(rt: HostRuntime) -> Result<(),
             name,
             &ledger(CONFIG.as_bytes(), feed.as_slice()),
             &wanted,
-        )?;
-    }
-    Ok(())
-}
-
-#[test]
-fn a_configuration_is_refused_by_its_first_key(rt: HostRuntime) -> Result<(), Fail> {
-    let cases = [
-        ("no document", "chain", "", "config text"),
-        (
-            "no blocks of maturity",
-            "[chain]\nmaturity = 0\n",
-            CONFIG,
-            "config chain.maturity",
-        ),
-        (
-            "too long a maturity",
-            "[chain]\nmaturity = 10001\n",
-            CONFIG,
-            "config chain.maturity",
-        ),
-        (
-            "a maturity that is a text",
-            "[chain]\nmaturity = \"1\"\n",
-            "",
-            "config chain.maturity",
-        ),
-        (
-            "no siafunds",
-            "[chain]\nmaturity = 1\n",
-            "",
-            "config chain.siafund",
-        ),
-        (
-            "a chain that is no table has no keys",
-            "chain = 1\n",
-            "",
-            "config chain.siafund",
-        ),
-        (
-            "a short address",
-            "[[chain.siafund]]\nto = \"00\"\nvalue = 10000\n",
-            "",
-            "config chain.siafund",
-        ),
-        (
-            "a siafund too many",
-            CONFIG,
-            "[[chain.siafund]]\nto = \"FfFfFfFfFfFfFfFfFfFfFfFfFfFfFfFfFfFfFfFfFfFfFfFfFfFfFfFfFfFfFfFf\"\nvalue = 1\n",
-            "config chain.siafund",
-        ),
-    ];
-    for (name, first, second, refused) in cases {
-        let config = [first, second].concat(rt.alloc())?;
-        let err = format!(in rt.alloc(); "sia-v1: refused {refused}\n")?;
-        check(
-            &rt,
-            name,
-            &ledger(config.as_str().as_bytes(), &[]),
-            &told(2, err.as_str()),
         )?;
     }
     Ok(())

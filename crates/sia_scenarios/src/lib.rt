@@ -5,6 +5,8 @@
 #[cfg(test)]
 mod call;
 #[cfg(test)]
+mod configuration;
+#[cfg(test)]
 mod ledger;
 #[cfg(test)]
 mod prove;

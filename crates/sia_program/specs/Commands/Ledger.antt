@@ -7,6 +7,7 @@ use Rattle.sia_encoding.specs.Answer.{◌>>=◌}
 use Rattle.sia_encoding.specs.Reading.{Spot}
 use Rattle.sia_rules.specs.declared.fault.BlockFault.{BlockFault}
 use Rattle.sia_types.specs.declared.block.Block.{Block}
+use Rattle.sia_config.specs.Config.{config_of}
 use Rattle.sia_ledger.specs.declared.sums.Sums.{Sums}
 use Rattle.sia_ledger.specs.Chain.{Chain, height, begun, extended, shortened}
 use Rattle.sia_ledger.specs.Holdings.{tip, sums_of}
@@ -19,7 +20,6 @@ use Rattle.sia_program.specs.declared.form.Form.TheVariants as form
 use Rattle.sia_program.specs.declared.stop.Refusal.{Refusal}
 use Rattle.sia_program.specs.declared.stop.Refusal.TheVariants as refusal
 use Rattle.sia_program.specs.declared.stop.Stop.{Stop}
-use Rattle.sia_program.specs.Config.{config_of}
 use Rattle.sia_program.specs.Feed.{first_spot, record_at}
 use Rattle.sia_program.specs.Inputs.{within}
 use Rattle.sia_program.specs.Lines.{line}
@@ -76,12 +76,12 @@ run_at verdict (suc most) s chain =
 unfoldable pub run : Verdict → Chain → List ℕ → Result Chain Refusal
 run verdict chain feed = run_at verdict (length feed + 1) (first_spot feed) chain
 
--- the chain that a configuration of at most 65,536 bytes begins
+-- the chain that a configuration of at most 65,536 bytes begins. All its keys are judged.
 unfoldable pub begin : List ℕ → Result Chain Stop
 begin config = do
   bytes ← within 65536 config
-  params ← or_config_refused (config_of bytes)
-  Ok (begun params)
+  read ← or_config_refused (config_of bytes)
+  Ok (begun read.host.params)
 
 -- the lines of a chain's sums and its tip
 unfoldable pub sums_text : Sums → List ℕ → List ℕ

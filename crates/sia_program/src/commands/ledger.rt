@@ -10,7 +10,6 @@ ghost use Rattle.sia_program.specs.Commands.Ledger.{ledger_form as ledger_form_o
 ghost use Rattle.sia_program.specs.Outcome.{given_both};
 ghost use Rattle.sia_program.specs.Told.{refusal_told, stop_told};
 
-use crate::config::read_config;
 use crate::feed::{FeedRecord, is_at_end, take_record};
 use crate::form::{FilePlaces, Form};
 use crate::input::{CONFIG_BOUND, INPUT_BOUND, read_within};
@@ -18,6 +17,7 @@ use crate::lines::{hash_text, put_number, put_text};
 use crate::rule::BrokenRule;
 use crate::stop::{Fault, Refusal, Stop};
 use sia_blake::Hash;
+use sia_config::read_config;
 use sia_edge::{SigCheck, Source};
 use sia_encoding::limits::BLOCK_BYTES;
 use sia_encoding::{Blob, Cursor, Steps};
@@ -191,8 +191,8 @@ fn begin_from<S: Source>(alloc: Global, config: &mut S) -> Result<Ledger, Stop>
     ensures failed { result ≡ Err Stop.Outside → Rose (S.faults config.old) (S.faults config.new) }
 {
     let bytes = read_within(alloc, config, CONFIG_BOUND)?;
-    let params = read_config(alloc, bytes.as_slice())?;
-    let ledger = begin_ledger(alloc, params)?;
+    let read = read_config(alloc, bytes.as_slice())?;
+    let ledger = begin_ledger(alloc, read.host.params)?;
     Ok(ledger)
 }
 

@@ -1,0 +1,4 @@
+mod Documents
+mod Decimals
+mod Printed
+mod SiafundTables
