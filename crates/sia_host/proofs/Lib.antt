@@ -12,3 +12,5 @@ pub mod Placed
 pub mod Askings
 pub mod Readable
 pub mod RootsTold
+pub mod Renewals
+pub mod RenewalsSigned

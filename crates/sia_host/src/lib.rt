@@ -47,6 +47,7 @@ mod phase;
 mod proposals;
 mod reading;
 mod refusal;
+mod renewing;
 mod report;
 mod revising;
 mod stepping;
