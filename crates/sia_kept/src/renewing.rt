@@ -1,5 +1,7 @@
 //! A contract that is renewed.
-ghost use Rattle.std.specs.Prelude.{◌≡◌, ◌<◌, [], ◌∷◌, ◌++◌, length, map, option_to_list, vec_len, vec_capacity, slice_set, slice_index_or, IfOk, OnOk, OnErr};
+ghost use Rattle.std.specs.Prelude.{◌≡◌, ◌<◌, ◌==◌, ◌&&◌, [], ◌∷◌, ◌++◌, find, length, map, option_copied, option_to_list, vec_capacity, slice_set, slice_index_or, IfOk, OnOk, OnErr};
+ghost use Rattle.std.specs.Str.{bytes_eq};
+ghost use Rattle.sia_types.specs.declared.signature.Signature.{Signature as Signed};
 ghost use Rattle.sia_kept.specs.State.{AreApart, Kept, after_renewal, formed_by, signature_for as signature_so};
 
 use crate::kept::KeptContract;
@@ -56,13 +58,23 @@ fn signature_for(
 ) -> Result<Blob, AllocError>
     ensures { IfOk result (λ bytes. bytes ≡ signature_so contract.now index signatures.now) }
 {
-    let found = signatures
-        .iter()
-        .find(|s| s.parent == *contract && s.key_index == index);
-    match found {
+    match find_signature(contract, index, signatures) {
         None => Ok(Blob::new(alloc)),
-        Some(signature) => signature.signature.copy(alloc),
+        Some(found) => found.signature.copy(alloc),
     }
+}
+
+// The first signature for a contract by the key at an index.
+fn find_signature<'a>(
+    contract: &Hash,
+    index: u64,
+    signatures: &'a [Signature],
+) -> Option<&'a Signature>
+    ensures { option_copied result ≡ find (λ (s : Signed). bytes_eq s.parent contract.now && (s.key_index == index)) signatures.now }
+{
+    signatures
+        .iter()
+        .find(|s| s.parent == *contract && s.key_index == index)
 }
 
 // The contract at a place is renewed: it has this newest revision with these signatures, and its sectors pass on. The error is want
@@ -96,7 +108,7 @@ fn renew_among(
     signatures: List<Blob>,
     tx: Transaction,
 ) -> Result<(), AllocError>
-    requires { place < vec_len items.old }
+    requires { place < length items.old.items }
     ensures ok { OnOk result ((d : Kept) → items.new.items ≡ slice_set items.old.items place (record (slice_index_or items.old.items place d) { newest = newest; signatures = signatures; sectors = [] }) ++ formed_by host_key.now (slice_index_or items.old.items place d).renter_key tx (slice_index_or items.old.items place d).sectors tx.contracts) }
     ensures err { OnErr result (items.new.items ≡ items.old.items) }
 {
@@ -125,7 +137,7 @@ fn clear_one(
 
 // Puts the contract that renews another one, if there is one, behind the others in room that is there; it has these sectors.
 fn put_renewed(items: &mut Vec<KeptContract>, formed: Option<KeptContract>, sectors: Sectors)
-    requires { vec_len items.old < vec_capacity items.old }
+    requires { length items.old.items < vec_capacity items.old }
     ensures { items.new.items ≡ items.old.items ++ map (λ (c : Kept). record c { sectors = sectors }) (option_to_list formed) }
 {
     let Some(mut renewed) = formed else {

@@ -52,7 +52,11 @@ pub fn revise_kept(
 }
 
 /// The renter's signature and the host's. The error is want of memory.
-pub(crate) fn both_signatures(alloc: Global, renter: Blob, host: Blob) -> Result<List<Blob>, AllocError>
+pub(crate) fn both_signatures(
+    alloc: Global,
+    renter: Blob,
+    host: Blob,
+) -> Result<List<Blob>, AllocError>
     ensures { IfOk result (λ signatures. signatures ≡ renter ∷ host ∷ []) }
 {
     let mut signatures = List::new(alloc);
