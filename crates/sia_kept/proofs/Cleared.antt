@@ -1,6 +1,5 @@
 -- A revision that is spelled as another is the same.
-use Rattle.std.proofs.Common.{◌≡◌, ◌∙◌, ◌-◌, ◌^◌, ◌<◌, ◌≤◌, ℕ, true, List, [], ◌∷◌, ◌++◌, All, length, sym, ap, arith}
-use Rattle.std.specs.Prelude.{replicate}
+use Rattle.std.proofs.Common.{◌≡◌, ◌∙◌, ◌-◌, ◌^◌, ◌<◌, ℕ, true, List, [], ◌∷◌, ◌++◌, All, length, sym, ap, arith}
 use Rattle.std.proofs.lemmas.List.{append-nil, length-replicate}
 use Rattle.std.proofs.lemmas.List.Elements.{All-head, All-replicate}
 use Rattle.sia_encoding.specs.Codec.{AreBytes}

@@ -1,5 +1,5 @@
 -- The sectors pass on to the contract that is formed.
-use Rattle.std.proofs.Common.{◌≡◌, ◌∙◌, ◌<◌, ◌++◌, List, get_or, set, length, map, subst, sym, ap}
+use Rattle.std.proofs.Common.{◌≡◌, ◌∙◌, ◌++◌, get_or, set, map, subst, ap}
 use Rattle.std.specs.Option.{option_to_list}
 use Rattle.sia_kept.specs.State.{Kept}
 use Rattle.sia_kept.proofs.Renewed.{renewed_in_place}

@@ -1,8 +1,8 @@
 -- With no revision or no contract of it nothing changes, and else the contract that is found is renewed.
-use Rattle.std.proofs.Common.{◌≡◌, ◌∙◌, [], ◌∷◌, Some, None, ap, sym}
-use Rattle.std.specs.Prelude.{slice_get, option_copied}
+use Rattle.std.proofs.Common.{◌≡◌, ◌∙◌, [], ◌∷◌, Some, ap, sym}
+use Rattle.std.specs.Prelude.{slice_get}
 use Rattle.sia_kept.specs.State.{signature_for}
-use Rattle.sia_kept.proofs.Renewed.{no_contract, no_revision, renewed_on}
+use Rattle.sia_kept.proofs.Renewed.{no_contract, renewed_on}
 use Rattle.sia_kept.proofs.renewing.renew_kept.Goals as goal
 
 pub returns-in_default-place_of-clause-ok : goal.returns-in_default-place_of-clause-ok

@@ -1,4 +1,4 @@
-use Rattle.std.proofs.Common.{ℕ, ◌<◌, take}
+use Rattle.std.proofs.Common.{◌<◌, take}
 use Rattle.std.specs.List.{All}
 use Rattle.sia_kept.proofs.typed.know_bytes.Given as goal
 
