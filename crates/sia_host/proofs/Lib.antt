@@ -12,6 +12,8 @@ pub mod Placed
 pub mod Askings
 pub mod Readable
 pub mod RootsTold
+pub mod Renewals
+pub mod RenewalsSigned
 pub mod Marking
 pub mod Spelled
 pub mod Payloads

@@ -1,10 +1,12 @@
 -- Marks of places, and the least places that have none.
-use Rattle.std.proofs.Common.{◌≡◌, ◌≢◌, ◌∙◌, ◌+◌, ◌<◌, ◌≤◌, ◌==◌, ◌||◌, ℕ, Bool, true, false, not, List, [], ◌++◌, length, take, drop, append-nil, get_or, set, replicate, refl, sym, ap, arith}
-use Rattle.std.specs.List.{filter, list_any, range_with_len}
+use Rattle.std.proofs.Common.{◌≡◌, ◌≢◌, ◌∙◌, ◌+◌, ◌<◌, ◌≤◌, ◌==◌, ◌||◌, ℕ, Bool, true, false, not, List, [], ◌∷◌, ◌++◌, length, map, take, drop, append-nil, get_or, set, replicate, refl, sym, ap, arith}
+use Rattle.std.specs.List.{filter, flat_map, list_any, range_with_len}
 use Rattle.std.proofs.lemmas.Bool.{eqb-true, eq-eqb}
-use Rattle.std.proofs.lemmas.List.{get_or-set_same, get_or-set_other, get_or-replicate, length-replicate, take_all, drop_all}
+use Rattle.std.proofs.lemmas.List.{get_or-set_same, get_or-set_other, get_or-replicate, length-replicate, take_all, take_more, drop_all}
+use Rattle.std.proofs.lemmas.Grind.{flat_map-append}
 use Rattle.std.proofs.lemmas.List.Folds.{list_any_more}
-use Rattle.sia_kept.specs.State.{is_free_slot}
+use Rattle.sia_records.specs.Stored.{Stored}
+use Rattle.sia_kept.specs.State.{Kept, is_free_slot}
 use Rattle.sia_host.specs.Replaying.{least_free}
 use Rattle.sia_host.specs.Marks.{AreMarked, is_unmarked}
 use Rattle.sia_diff.proofs.Counts.{filter_row}
@@ -81,3 +83,14 @@ pub whole_again : (now items : List Bool) (len : ℕ) → len ≡ length items �
 whole_again now items len all same =
     let none : drop (length now) items ≡ [] = drop_all (length now) items (omega arith) in
     ap (λ rest. take len (now ++ rest)) none ∙ ap (take len) (append-nil now) ∙ take_all len now (omega arith)
+
+-- the slots of one contract more
+pub live_more : (contracts : List Kept) (i : ℕ) (live now : List ℕ) (c : Kept) → i < length contracts → c ≡ get_or contracts i c
+    → live ≡ flat_map (λ (k : Kept). map (λ (s : Stored). s.slot) k.sectors) (take i contracts) → now ≡ live ++ map (λ (s : Stored). s.slot) c.sectors
+    → now ≡ flat_map (λ (k : Kept). map (λ (s : Stored). s.slot) k.sectors) (take (i + 1) contracts)
+live_more contracts i live now c within is so_far grown =
+    let slots = λ (k : Kept). map (λ (s : Stored). s.slot) k.sectors in
+    let more : take (i + 1) contracts ≡ take i contracts ++ c ∷ [] = take_more contracts i c within ∙ ap (λ k. take i contracts ++ k ∷ []) (sym is) in
+    let all : flat_map slots (take (i + 1) contracts) ≡ flat_map slots (take i contracts) ++ slots c =
+    ap (flat_map slots) more ∙ flat_map-append slots (take i contracts) (c ∷ []) ∙ ap (λ xs. flat_map slots (take i contracts) ++ xs) (append-nil (slots c)) in
+    grown ∙ ap (λ xs. xs ++ slots c) so_far ∙ sym all

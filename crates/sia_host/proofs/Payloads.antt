@@ -1,9 +1,10 @@
 -- Payloads, and the records that they are.
-use Rattle.std.proofs.Common.{◌≡◌, ◌≢◌, ◌∙◌, ℕ, Bool, true, false, List, [], ◌++◌, length, take, Result, Ok, Err, IfOk, MatchResult, append-nil, refl, sym, ap, subst, arith}
+use Rattle.std.proofs.Common.{◌≡◌, ◌≢◌, ◌∙◌, ℕ, Bool, true, false, List, [], ◌++◌, length, take, Option, Some, None, Result, Ok, Err, IfOk, append-nil, refl, sym, ap, subst, arith}
 use Rattle.std.proofs.lemmas.List.{take_all}
 use Rattle.sia_encoding.specs.declared.fault.DecodeFault.{DecodeFault}
 use Rattle.sia_encoding.specs.declared.fault.DecodeFault.TheVariants as fault
 use Rattle.sia_encoding.specs.Decoding.{IsDecoded}
+use Rattle.sia_encoding.specs.Reading.{fault_told}
 use Rattle.sia_records.specs.declared.host_record.HostRecord.{HostRecord}
 use Rattle.sia_records.specs.HostRecords.{host_record}
 use Rattle.sia_records.specs.HostRecordLaws.{host_record_law}
@@ -24,9 +25,11 @@ read_part payload made taken is part other spells =
     let read : (made, taken) ≡ (other, length (record_payload other)) = is.read_back other [] spells.fits (spells.whole ∙ sym (append-nil (record_payload other))) in
     part (ap (λ (r : HostRecord × ℕ). r.1) read ∙ sym (ap length spells.whole))
 
--- what can't be read is none
-pub read_none : (payload : List ℕ) (e : DecodeFault) → IsDecoded host_record payload (length payload) (Err e) → e ≢ fault.Memory → (other : HostRecord) → ¬ IsPayload payload other
-read_none payload e is wrong other spells = wrong (is.read_back other [] spells.fits (spells.whole ∙ sym (append-nil (record_payload other))))
+-- what can't be read, but for want of memory, is none
+pub read_none : (payload : List ℕ) (e told : DecodeFault) → IsDecoded host_record payload (length payload) (Err e) → Some told ≡ fault_told e → (other : HostRecord) → ¬ IsPayload payload other
+read_none payload e told is some other spells =
+    let memory : e ≡ fault.Memory = is.read_back other [] spells.fits (spells.whole ∙ sym (append-nil (record_payload other))) in
+    absurd (let none : Some told ≡ None = some ∙ ap fault_told memory in cc)
 
 -- a payload is one record at most
 one_record : (payload : List ℕ) (made other : HostRecord) → IsPayload payload made → IsPayload payload other → other ≡ made

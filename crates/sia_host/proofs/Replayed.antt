@@ -1,7 +1,8 @@
 -- A record that follows keeps the host sound.
-use Rattle.std.proofs.Common.{◌≡◌, ◌∙◌, ◌*◌, ◌+◌, ◌≤◌, ℕ, Bool, true, false, not, ◌&&◌, ◌==◌, List, [], ◌∷◌, All, length, map, Option, Some, None, refl, sym, ap, subst, arith}
+use Rattle.std.proofs.Common.{◌≡◌, ◌∙◌, ◌*◌, ◌+◌, ◌^◌, ◌<◌, ◌≤◌, ℕ, Bool, true, false, not, ◌&&◌, ◌==◌, List, [], ◌∷◌, All, length, map, Option, Some, None, Result, Ok, Err, IfOk, refl, sym, ap, subst, arith}
 use Rattle.std.specs.Prelude.{nat_le}
 use Rattle.std.specs.Option.{is_none}
+use Rattle.std.proofs.Math.Nat.{mul-le-mul_left, pow-le-pow_right}
 use Rattle.std.proofs.lemmas.Bool.{eqb-true}
 use Rattle.std.proofs.lemmas.List.{length-map}
 use Rattle.std.proofs.lemmas.List.Elements.{All-cons, All-nil}
@@ -17,19 +18,21 @@ use Rattle.sia_types.specs.declared.file_contracts.Revision.{Revision}
 use Rattle.sia_types.specs.declared.transaction.Transaction.{Transaction}
 use Rattle.sia_ids.specs.Transactions.{contract_id}
 use Rattle.sia_price.specs.Payments.{has_same_counts, has_same_sums, revision_with}
-use Rattle.sia_forms.specs.Checks.{begins_with, is_spelled_as, pays_parties}
+use Rattle.sia_forms.specs.Checks.{begins_with, is_cleared, is_spelled_as, pays_parties}
 use Rattle.sia_forms.specs.Parties.{both_address, zero_hash}
+use Rattle.sia_forms.specs.Renewing.{clearing}
 use Rattle.sia_ledger.specs.Refusal.{set_refusal}
 use Rattle.sia_records.specs.declared.change.Change.{Change}
 use Rattle.sia_records.specs.Stored.{step_of, stored_after}
 use Rattle.sia_records.proofs.Roots.{roots_after}
-use Rattle.sia_kept.specs.State.{Kept, IsSound, IsStored, contract_among, formed_by, is_among, new_contract, revised_contract, root_in, roots_of}
+use Rattle.sia_kept.specs.State.{Kept, IsSound, IsStored, after_renewal, contract_among, formed_by, is_among, new_contract, revised_contract, root_in, roots_of}
 use Rattle.sia_kept.proofs.Apart.{found_id}
-use Rattle.sia_kept.proofs.Sound.{found_stores, stored_same}
+use Rattle.sia_kept.proofs.Sound.{PassesOn, found_stores, sound_renewed, stored_same}
 use Rattle.sia_host.specs.Answered.{Host}
 use Rattle.sia_host.specs.Paying.{Payment, is_late, is_low, paid_revision, signs_revision, was_cleared}
-use Rattle.sia_host.specs.Replaying.{begins_so, changed_roots, changes_fit, expected, formed_replays, has_coins_alone, is_new, payment_in, revises_contract, takes_least}
-use Rattle.sia_host.proofs.Sound.{empty_stored, nothing_yet}
+use Rattle.sia_host.specs.Replaying.{begins_so, changed_roots, changes_fit, expected, formed_replays, has_coins_alone, is_new, payment_in, renewal_pays, renews_contract, renews_so, revises_contract, takes_least}
+use Rattle.sia_host.proofs.Renewals.{is_old, passes_on}
+use Rattle.sia_host.proofs.Sound.{Begun, begun_so, empty_stored}
 
 -- formations
 
@@ -56,9 +59,9 @@ formed_stores accepts h renter_key tx sector host_key is =
     by [] one begins = (cc)
     by (c ∷ []) one begins =
         let address = both_address renter_key h.settings.host_key in
-        let begun = nothing_yet tx address c one (left_of_and (begins_with 0 zero_hash address c) (pays_parties h.settings 0 c.valid c.missed) begins) in
+        let begun = begun_so tx 0 zero_hash address c one (left_of_and (begins_with 0 zero_hash address c) (pays_parties h.settings 0 c.valid c.missed) begins) in
         let same : (c ∷ []) ≡ (begun.terms ∷ []) = sym one ∙ begun.one in
-        subst (λ cs. All (IsStored sector) (formed_by host_key renter_key tx [] cs)) (sym same) (All-cons (IsStored sector) (new_contract host_key renter_key tx [] begun.terms) [] (empty_stored sector host_key renter_key tx begun.terms begun.size begun.root) (All-nil (IsStored sector)))
+        subst (λ cs. All (IsStored sector) (formed_by host_key renter_key tx [] cs)) (sym same) (All-cons (IsStored sector) (new_contract host_key renter_key tx [] begun.terms) [] (empty_stored sector host_key renter_key tx begun.terms begun.sized begun.rooted) (All-nil (IsStored sector)))
     by (c ∷ other ∷ more) one begins = (cc)
 
 -- revisions
@@ -131,6 +134,56 @@ follows_stores accepts h revision renter host done found c sound at is made ther
     subst (λ (k : Kept). IsStored h.settings.sector (revised_contract revision renter host done k)) same
     (expected_stores h revision renter host done found (payment_in revision) (found_stores h.settings.sector revision.parent h.state.contracts found sound.stored at) (sym (found_id revision.parent h.state.contracts found at))
     (revises_fit accepts h revision renter done found is) made)
+
+-- where memory didn't run out
+pub stores_on : {E : Type 0} (accepts : List ℕ → List ℕ → List ℕ → Bool) (h : Host) (revision : Revision) (renter host : List ℕ) (done : List Change) (found : Kept) (result : Result Bool E) → IsSound h.settings.sector h.state.contracts
+    → contract_among revision.parent h.state.contracts ≡ Some found → IfOk result (λ follows. follows ≡ revises_contract accepts h revision renter done found)
+    → IfOk result (λ follows. follows ≡ true → revision ≡ expected h found (payment_in revision) done)
+    → IfOk result (λ follows. follows ≡ true → (c : Kept) → contract_among revision.parent h.state.contracts ≡ Some c → IsStored h.settings.sector (revised_contract revision renter host done c))
+stores_on accepts h revision renter host done found (Ok follows) sound at judged made = (λ yes c there. follows_stores accepts h revision renter host done found c sound at (sym judged ∙ yes) (made yes) there)
+stores_on accepts h revision renter host done found (Err e) sound at judged made = tt
+
+-- what a contract may store fits a number of 64 bits
+pub product_fits : (sector count : ℕ) → ((power : ℕ) × (power ≤ 16) × (sector ≡ 64 * 2 ^ power)) → count ≤ 65536 → sector * count < 2 ^ 64
+product_fits sector count size few =
+    let most : 2 ^ size.0 ≤ 2 ^ 16 = pow-le-pow_right {n = 2} (omega arith) {i = size.0} {j = 16} size.1 in
+    let small : sector ≤ 4194304 = omega (arith, size.2) in
+    let all : sector * count ≤ sector * 65536 = mul-le-mul_left sector few in
+    omega arith
+
+-- renewals
+
+-- the contract of a renewal that follows begins with what the old one stores
+renewed_begins : (h : Host) (old : Kept) (tx : Transaction) → renews_so h old tx.contracts ≡ true → Begun tx old.newest.size old.newest.root
+renewed_begins h old tx = by tx.contracts refl
+  where
+    by : (contracts : List FileContract) → tx.contracts ≡ contracts → renews_so h old contracts ≡ true → Begun tx old.newest.size old.newest.root
+    by [] one begins = (cc)
+    by (c ∷ []) one begins =
+        let address = both_address old.renter_key h.settings.host_key in
+        begun_so tx old.newest.size old.newest.root address c one (left_of_and (begins_with old.newest.size old.newest.root address c) (renewal_pays h.settings c.valid c.missed) begins)
+    by (c ∷ other ∷ more) one begins = (cc)
+
+-- a host stays sound with a renewal that follows and clears
+renewed_sound : (accepts : List ℕ → List ℕ → List ℕ → Bool) (h : Host) (tx : Transaction) (id : List ℕ) (old : Kept) → IsSound h.settings.sector h.state.contracts → contract_among id h.state.contracts ≡ Some old
+    → renews_contract accepts h tx old ≡ true → tx.revisions ≡ clearing old.newest ∷ [] → IsSound h.settings.sector (after_renewal h.settings.host_key tx h.state.contracts tx.revisions)
+renewed_sound accepts h tx id old sound at is clears =
+    let stored : IsStored h.settings.sector old = found_stores h.settings.sector id h.state.contracts old sound.stored at in
+    let there : contract_among old.id h.state.contracts ≡ Some old = subst (λ i. contract_among i h.state.contracts ≡ Some old) (sym (found_id id h.state.contracts old at)) at in
+    let before = not (was_cleared old) && not (is_late h old) && is_cleared old.newest tx.revisions && has_coins_alone tx in
+    let begun : Begun tx old.newest.size old.newest.root = renewed_begins h old tx (right_of_and before (renews_so h old tx.contracts) (left_of_and (before && renews_so h old tx.contracts) (is_new accepts h tx) is)) in
+    let none : is_among (contract_id tx 0) h.state.contracts ≡ false = new_apart accepts h tx (right_of_and (before && renews_so h old tx.contracts) (is_new accepts h tx) is) in
+    let passes : (c : Kept) → contract_among (clearing old.newest).parent h.state.contracts ≡ Some c → PassesOn h.settings.sector h.settings.host_key tx (clearing old.newest) c =
+    λ c found. subst (PassesOn h.settings.sector h.settings.host_key tx (clearing old.newest)) (sym (is_old h.state.contracts old c there stored.parent found)) (passes_on h.settings.sector h.settings.host_key tx old stored begun) in
+    subst (λ revisions. IsSound h.settings.sector (after_renewal h.settings.host_key tx h.state.contracts revisions)) (sym clears)
+    (sound_renewed h.settings.sector h.settings.host_key tx h.state.contracts (clearing old.newest) sound none passes)
+
+-- where memory didn't run out
+pub renews_on : {E : Type 0} (accepts : List ℕ → List ℕ → List ℕ → Bool) (h : Host) (tx : Transaction) (id : List ℕ) (old : Kept) (result : Result Bool E) → IsSound h.settings.sector h.state.contracts → contract_among id h.state.contracts ≡ Some old
+    → IfOk result (λ follows. follows ≡ renews_contract accepts h tx old) → IfOk result (λ follows. follows ≡ true → tx.revisions ≡ clearing old.newest ∷ [])
+    → IfOk result (λ follows. follows ≡ true → IsSound h.settings.sector (after_renewal h.settings.host_key tx h.state.contracts tx.revisions))
+renews_on accepts h tx id old (Ok follows) sound at judged clears = (λ yes. renewed_sound accepts h tx id old sound at (sym judged ∙ yes) (clears yes))
+renews_on accepts h tx id old (Err e) sound at judged clears = tt
 
 -- the revision that changes make, by what it stores
 

@@ -44,53 +44,52 @@ pub added_new : (h : Host) (tx : Transaction) (judged : Result ℕ ℕ) (added :
 added_new h tx (Err code) added is = elim is [ ]
 added_new h tx (Ok collateral) added is = is.1
 
--- a contract that a formation may have begins with nothing
-begins_empty : (s : Settings) (address : List ℕ) (c : FileContract) (collateral : ℕ) → contract_answer s (asked_to_form s address) c ≡ Ok collateral → begins_with 0 zero_hash address c ≡ true
+-- a contract that is answered begins with what is asked
+pub begins_as_asked : (s : Settings) (asked : Asked) (c : FileContract) (collateral : ℕ) → contract_answer s asked c ≡ Ok collateral → begins_with asked.size asked.root asked.address c ≡ true
 unfolding contract_answer terms_fault
-begins_empty s address c collateral = by (begins_with 0 zero_hash address c)
+begins_as_asked s asked c collateral = by (begins_with asked.size asked.root asked.address c)
   where
     by : (b : Bool)
-        → (unless (broken (not b) (form_fault.BadContract 1) or_else broken (not (pays_parties s 0 c.valid c.missed)) (form_fault.BadContract 2) or_else broken (not (keeps_window s c)) (form_fault.BadContract 3))
-        >>= (λ _. collateral_within s s.prices.contract_price (host_value_of c.valid))) ≡ Ok collateral → b ≡ true
+        → (unless (broken (not b) (form_fault.BadContract 1) or_else broken (not (pays_parties s asked.risk c.valid c.missed)) (form_fault.BadContract 2) or_else broken (not (keeps_window s c)) (form_fault.BadContract 3))
+        >>= (λ _. collateral_within s asked.least (host_value_of c.valid))) ≡ Ok collateral → b ≡ true
     by true is = refl
     by false is = (cc)
 
--- the contract of a formation that is accepted
-pub record Begun (tx : Transaction) : Type 0 where
+-- the one contract of a transaction begins with so many bytes and this root
+pub record Begun (tx : Transaction) (size : ℕ) (root : List ℕ) : Type 0 where
   pub terms : FileContract
   pub one : tx.contracts ≡ terms ∷ []
-  pub size : terms.size ≡ 0
-  pub root : terms.root ≡ zero_hash
+  pub sized : terms.size ≡ size
+  pub rooted : terms.root ≡ root
 
--- as its only contract says
-pub nothing_yet : (tx : Transaction) (address : List ℕ) (c : FileContract) → tx.contracts ≡ c ∷ [] → begins_with 0 zero_hash address c ≡ true → Begun tx
-nothing_yet tx address c one is = by (c.size == 0) (bytes_eq c.root zero_hash) refl refl is
+pub begun_so : (tx : Transaction) (size : ℕ) (root address : List ℕ) (c : FileContract) → tx.contracts ≡ c ∷ [] → begins_with size root address c ≡ true → Begun tx size root
+begun_so tx size root address c one is = by (c.size == size) (bytes_eq c.root root) refl refl is
   where
-    by : (a b : Bool) → (c.size == 0) ≡ a → bytes_eq c.root zero_hash ≡ b → (a && b && (c.number == 0) && bytes_eq c.address address) ≡ true → Begun tx
-    by true true size root is = record { terms = c; one = one; size = eqb-true c.size 0 size; root = same_bytes c.root zero_hash root }
-    by true false size root is = (cc)
-    by false b size root is = (cc)
+    by : (a b : Bool) → (c.size == size) ≡ a → bytes_eq c.root root ≡ b → (a && b && (c.number == 0) && bytes_eq c.address address) ≡ true → Begun tx size root
+    by true true sized rooted is = record { terms = c; one = one; sized = eqb-true c.size size sized; rooted = same_bytes c.root root rooted }
+    by true false sized rooted is = (cc)
+    by false b sized rooted is = (cc)
 
-form_begins : (tx : Transaction) (key : List ℕ) (s : Settings) (collateral : ℕ) → form_answer tx key s ≡ Ok collateral → Begun tx
+form_begins : (tx : Transaction) (key : List ℕ) (s : Settings) (collateral : ℕ) → form_answer tx key s ≡ Ok collateral → Begun tx 0 zero_hash
 unfolding form_answer
 form_begins tx key s collateral = by ((length tx.revisions == 0) && has_no_other_part tx) tx.contracts refl
   where
-    by : (fit : Bool) (cs : List FileContract) → tx.contracts ≡ cs → (one_contract fit cs >>= (λ c. contract_answer s (asked_to_form s (both_address key s.host_key)) c)) ≡ Ok collateral → Begun tx
+    by : (fit : Bool) (cs : List FileContract) → tx.contracts ≡ cs → (one_contract fit cs >>= (λ c. contract_answer s (asked_to_form s (both_address key s.host_key)) c)) ≡ Ok collateral → Begun tx 0 zero_hash
     by true [] one is = (cc)
-    by true (c ∷ []) one is = nothing_yet tx (both_address key s.host_key) c one (begins_empty s (both_address key s.host_key) c collateral is)
+    by true (c ∷ []) one is = begun_so tx 0 zero_hash (both_address key s.host_key) c one (begins_as_asked s (asked_to_form s (both_address key s.host_key)) c collateral is)
     by true (c ∷ other ∷ more) one is = (cc)
     by false cs one is = (cc)
 
-judged_begins : (h : Host) (session : ℕ) (request : FormRequest) (collateral : ℕ) → form_judged h session request ≡ Ok collateral → Begun request.transaction
+judged_begins : (h : Host) (session : ℕ) (request : FormRequest) (collateral : ℕ) → form_judged h session request ≡ Ok collateral → Begun request.transaction 0 zero_hash
 judged_begins h session request collateral = by (idle_now h session) (form_answer request.transaction request.renter_key (settings_now h)) refl
   where
     by : (live : Result Session ℕ) (answer : Result ℕ FormFault) → form_answer request.transaction request.renter_key (settings_now h) ≡ answer
-        → ((live >>= (λ _. by_terms answer)) >>= funded h) ≡ Ok collateral → Begun request.transaction
+        → ((live >>= (λ _. by_terms answer)) >>= funded h) ≡ Ok collateral → Begun request.transaction 0 zero_hash
     by (Err code) answer at is = (cc)
     by (Ok live) (Err fault) at is = (cc)
     by (Ok live) (Ok found) at is = form_begins request.transaction request.renter_key (settings_now h) found at
 
-no_root : node_root_of [] ≡ zero_hash
+pub no_root : node_root_of [] ≡ zero_hash
 unfolding node_root_of
 no_root = refl
 
@@ -110,7 +109,7 @@ formed_stored h session request added sector host_key whole = by (form_judged h 
     by (Err code) at is same = elim is [ ]
     by (Ok collateral) at is same =
         let begun = judged_begins h session request collateral at in
-        subst (λ cs. All (IsStored sector) (formed_by host_key request.renter_key whole [] cs)) (sym (same ∙ begun.one)) (All-cons (IsStored sector) (new_contract host_key request.renter_key whole [] begun.terms) [] (empty_stored sector host_key request.renter_key whole begun.terms begun.size begun.root) (All-nil (IsStored sector)))
+        subst (λ cs. All (IsStored sector) (formed_by host_key request.renter_key whole [] cs)) (sym (same ∙ begun.one)) (All-cons (IsStored sector) (new_contract host_key request.renter_key whole [] begun.terms) [] (empty_stored sector host_key request.renter_key whole begun.terms begun.sized begun.rooted) (All-nil (IsStored sector)))
 
 -- the whole transaction has its contracts
 pub whole_contracts : (tx : Transaction) (added : Additions) (renter host : List Signature) (whole : Transaction) → whole ≡ finished tx added renter host → whole.contracts ≡ tx.contracts

@@ -59,11 +59,14 @@ abbrev pub renew_kept : (List ℕ → List ℕ → List ℕ → Bool) → Host �
 renew_kept accepts h room call tx signatures =
     renew_unless h call tx signatures (keeping_fault (lacks_room room (records.Renewed tx)) (set_refusal accepts h.state.chain tx))
 
+-- a renewal is signed and answered so, with what the host adds
+abbrev pub RenewsSigned : (List ℕ → List ℕ → List ℕ → Bool) → (List ℕ → List ℕ → Type 0) → Host → Room → Call → Transaction → List Signature → Additions → Reaction → Type 0
+RenewsSigned accepts Signs h room call tx renter added a =
+    (host : List Signature) × AreRenewalSigned Signs (with_additions tx added) (held_now h call.session) added host
+    × (a ≡ renew_kept accepts h room call (finished tx added renter host) host)
+
 -- A renewal is signed and answered so, on what the host finds now. The session keeps holding the old contract.
 abbrev pub IsRenewSigned : (List ℕ → List ℕ → List ℕ → Bool) → (List ℕ → List ℕ → Type 0) → Host → Room → ℕ → ℕ → Transaction → List Signature → Reaction → Type 0
 IsRenewSigned accepts Signs h room worker session tx renter a =
     let call : Call = record { worker = worker; session = session; kind = kind.RenewSign } in
-    IsProposed h call (held_now h session) tx (renew_judged h session tx)
-    (λ added a. (host : List Signature) × AreRenewalSigned Signs (with_additions tx added) (held_now h session) added host
-    × (a ≡ renew_kept accepts h room call (finished tx added renter host) host))
-    a
+    IsProposed h call (held_now h session) tx (renew_judged h session tx) (RenewsSigned accepts Signs h room call tx renter) a

@@ -49,6 +49,8 @@ mod phase;
 mod proposals;
 mod reading;
 mod refusal;
+mod renewing;
+mod renewing_again;
 mod replaying;
 mod report;
 mod revising;

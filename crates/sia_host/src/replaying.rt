@@ -1,5 +1,6 @@
 //! Records of the host's journal that are replayed: each is judged on what the host knows by the records before it.
 ghost use Rattle.std.specs.Prelude.{◌≡◌, ℕ, Bool, List as Sequence, false, MatchOption, IfOk, OnErr};
+ghost use Rattle.sia_encoding.specs.Reading.{fault_told};
 ghost use Rattle.sia_records.specs.declared.host_record.HostRecord.{HostRecord as Made};
 ghost use Rattle.sia_records.specs.declared.host_record.HostRecord.TheVariants as records;
 ghost use Rattle.sia_host.specs.Spoiling.{is_spoiled};
@@ -68,7 +69,7 @@ impl Core {
                 };
                 self.replay_revised(alloc, signed, check)
             }
-            HostRecord::Renewed(_) => unreachable!(),
+            HostRecord::Renewed(transaction) => self.replay_renewed(alloc, transaction, check),
         }
     }
 
@@ -116,17 +117,25 @@ fn record_in(alloc: Global, payload: &[u8]) -> Result<Option<HostRecord>, AllocE
     ensures { IfOk result (λ found. MatchOption found ((made : Made) → ¬ IsPayload payload.now made) (IsPayload payload.now)) }
 {
     match HostRecord::decode(alloc, payload, payload.len() as u64) {
-        Err(fault) => {
-            if fault == DecodeFault::Memory {
-                return Err(AllocError);
-            }
-            Ok(None)
-        }
+        Err(fault) => match told(fault) {
+            None => Err(AllocError),
+            Some(_) => Ok(None),
+        },
         Ok((made, taken)) => {
             if taken != payload.len() as u64 {
                 return Ok(None);
             }
             Ok(Some(made))
         }
+    }
+}
+
+// The fault that a reading tells: any but want of memory.
+fn told(fault: DecodeFault) -> Option<DecodeFault>
+    ensures { result ≡ fault_told fault }
+{
+    match fault {
+        DecodeFault::Memory => None,
+        _ => Some(fault),
     }
 }

@@ -4,7 +4,7 @@ ghost use Rattle.sia_types.specs.FileContracts.{revision as revision_codec};
 ghost use Rattle.sia_forms.specs.Checks.{is_spelled_as as is_spelled_so};
 
 use sia_forms::is_spelled_as;
-use sia_ledger::Typed;
+use sia_kept::Typed;
 use sia_types::Revision;
 use std::alloc::{AllocError, Global};
 

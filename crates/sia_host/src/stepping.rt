@@ -89,8 +89,10 @@ impl Core {
             Command::Roots(request) => {
                 self.roots(alloc, room, worker, session, request, check, signer)
             }
-            Command::Renew(_) => unreachable!(),
-            Command::RenewSign(_, _) => unreachable!(),
+            Command::Renew(tx) => self.renew(alloc, worker, session, &tx),
+            Command::RenewSign(tx, renter) => self.renew_sign(
+                alloc, room, worker, session, tx, renter, check, signer,
+            ),
             Command::Leave => Ok(self.leave(alloc, worker, session)),
             Command::Apply(block) => self.apply(alloc, room, worker, block, check),
             Command::Revert => self.revert(alloc, room, worker),

@@ -5,3 +5,5 @@ pub mod Steps
 pub mod Apart
 pub mod Revised
 pub mod Sound
+pub mod Renewed
+pub mod Cleared

@@ -18,7 +18,7 @@ none_changed : (id : List ℕ) (f : Kept → Kept) (xs : List Kept) (d : Kept) �
 none_changed id f [] d all = refl
 none_changed id f (x ∷ xs) d all = rw (all 0 (omega arith)) (ap (λ ys. x ∷ ys) (none_changed id f xs d (λ k below. all (suc k) (omega (arith, below)))))
 
-none_before : (id : List ℕ) (xs : List Kept) (d : Kept) (b : Bool) → nat_lt (position_or_len (λ (c : Kept). bytes_eq c.id id) xs) (length xs) ≡ b
+pub none_before : (id : List ℕ) (xs : List Kept) (d : Kept) (b : Bool) → nat_lt (position_or_len (λ (c : Kept). bytes_eq c.id id) xs) (length xs) ≡ b
     → (if b then Some (position_or_len (λ (c : Kept). bytes_eq c.id id) xs) else None) ≡ None → (k : ℕ) → k < length xs → bytes_eq (get_or xs k d).id id ≡ false
 none_before id xs d true at is k below = (cc)
 none_before id xs d false at is k below = fails_before_first (λ (c : Kept). bytes_eq c.id id) xs k d (omega (arith, ltb-false (position_or_len (λ (c : Kept). bytes_eq c.id id) xs) (length xs) at, below))

@@ -1,5 +1,5 @@
 -- Hosts stay sound: a contract that begins has an identifier of its own, and the newest revision of each stores its sectors.
-use Rattle.std.proofs.Common.{◌≡◌, ◌∙◌, ◌≤◌, ℕ, Bool, true, false, List, [], ◌∷◌, ◌++◌, All, length, Option, Some, if◌then◌else◌, refl, sym, subst, ap}
+use Rattle.std.proofs.Common.{◌≡◌, ◌∙◌, ◌≤◌, ℕ, Bool, true, false, List, [], ◌∷◌, ◌++◌, All, length, Option, Some, None, if◌then◌else◌, refl, sym, subst, ap}
 use Rattle.std.specs.Prelude.{nat_le}
 use Rattle.std.specs.List.{filter, range_with_len}
 use Rattle.std.specs.Option.{option_to_list}
@@ -14,16 +14,16 @@ use Rattle.sia_types.specs.declared.file_contracts.FileContract.{FileContract}
 use Rattle.sia_types.specs.declared.file_contracts.Revision.{Revision}
 use Rattle.sia_types.specs.declared.transaction.Transaction.{Transaction}
 use Rattle.sia_records.specs.declared.change.Change.{Change}
-use Rattle.sia_records.specs.Stored.{stored_after}
-use Rattle.sia_kept.specs.State.{Kept, AreApart, IsSound, IsStored, changed_at, contract_among, formed_by, is_among, new_contract, revised_contract}
-use Rattle.sia_kept.proofs.Apart.{apart_changed, apart_more, same_bytes, unchanged}
+use Rattle.sia_records.specs.Stored.{Stored, stored_after}
+use Rattle.sia_kept.specs.State.{Kept, AreApart, IsSound, IsStored, after_renewal, changed_at, cleared_by, contract_among, formed_by, is_among, new_contract, renewed_by, revised_contract}
+use Rattle.sia_kept.proofs.Apart.{among_changed, apart_changed, apart_more, same_bytes, unchanged}
 
 -- the contract that a transaction forms has the transaction's identifier
-formed_apart : (host_key renter_key : List ℕ) (tx : Transaction) (terms : List FileContract) (contracts : List Kept)
-    → AreApart contracts → is_among (contract_id tx 0) contracts ≡ false → AreApart (contracts ++ formed_by host_key renter_key tx [] terms)
+formed_apart : (host_key renter_key : List ℕ) (tx : Transaction) (sectors : List Stored) (terms : List FileContract) (contracts : List Kept)
+    → AreApart contracts → is_among (contract_id tx 0) contracts ≡ false → AreApart (contracts ++ formed_by host_key renter_key tx sectors terms)
 unfolding new_contract
-formed_apart host_key renter_key tx [] contracts are new = subst AreApart (sym (append-nil contracts)) are
-formed_apart host_key renter_key tx (terms ∷ others) contracts are new = apart_more contracts (new_contract host_key renter_key tx [] terms) are new
+formed_apart host_key renter_key tx sectors [] contracts are new = subst AreApart (sym (append-nil contracts)) are
+formed_apart host_key renter_key tx sectors (terms ∷ others) contracts are new = apart_more contracts (new_contract host_key renter_key tx sectors terms) are new
 
 -- a host stays sound with it, where it stores what it has
 pub sound_formed : (sector : ℕ) (host_key renter_key : List ℕ) (tx : Transaction) (old new : List Kept) (kept : Option Kept)
@@ -33,7 +33,7 @@ sound_formed sector host_key renter_key tx old new kept sound none stores is gro
     let same : new ≡ old ++ formed_by host_key renter_key tx [] tx.contracts = grown ∙ ap (λ xs. old ++ xs) is in
     record {
       size = sound.size;
-      apart = subst AreApart (sym same) (formed_apart host_key renter_key tx tx.contracts old sound.apart none);
+      apart = subst AreApart (sym same) (formed_apart host_key renter_key tx [] tx.contracts old sound.apart none);
       stored = subst (λ xs. All (IsStored sector) xs) (sym same) (All-append (IsStored sector) old (formed_by host_key renter_key tx [] tx.contracts) sound.stored stores);
     }
 
@@ -57,6 +57,34 @@ pub sound_revised : (sector : ℕ) (revision : Revision) (renter host : List ℕ
 sound_revised sector revision renter host changes old sound so =
     let f = revised_contract revision renter host changes in
     record { size = sound.size; apart = apart_changed revision.parent f (λ c. refl) old sound.apart; stored = stored_changed sector revision.parent f old sound.apart sound.stored so }
+
+-- a renewal of this contract leaves what stores the sectors: the old one nothing, and the new one those that pass on
+pub record PassesOn (sector : ℕ) (host_key : List ℕ) (tx : Transaction) (revision : Revision) (c : Kept) : Type 0 where
+  pub cleared : IsStored sector (cleared_by tx revision c)
+  pub renewed : All (IsStored sector) (formed_by host_key c.renter_key tx c.sectors tx.contracts)
+
+-- a host stays sound with a renewal whose contract isn't known, and that passes the sectors on
+pub sound_renewed : (sector : ℕ) (host_key : List ℕ) (tx : Transaction) (old : List Kept) (revision : Revision) → IsSound sector old → is_among (contract_id tx 0) old ≡ false
+    → ((c : Kept) → contract_among revision.parent old ≡ Some c → PassesOn sector host_key tx revision c)
+    → IsSound sector (after_renewal host_key tx old (revision ∷ []))
+sound_renewed sector host_key tx old revision sound none passes = by (contract_among revision.parent old) refl
+  where
+    apart : AreApart (changed_at revision.parent (cleared_by tx revision) old)
+    apart = apart_changed revision.parent (cleared_by tx revision) (λ c. refl) old sound.apart
+
+    new : is_among (contract_id tx 0) (changed_at revision.parent (cleared_by tx revision) old) ≡ false
+    new = among_changed (contract_id tx 0) revision.parent (cleared_by tx revision) (λ c. refl) old ∙ none
+
+    stored : All (IsStored sector) (changed_at revision.parent (cleared_by tx revision) old)
+    stored = stored_changed sector revision.parent (cleared_by tx revision) old sound.apart sound.stored (λ c is. (passes c is).cleared)
+
+    by : (found : Option Kept) → contract_among revision.parent old ≡ found → IsSound sector (changed_at revision.parent (cleared_by tx revision) old ++ renewed_by host_key tx found)
+    by None is = subst (IsSound sector) (sym (append-nil (changed_at revision.parent (cleared_by tx revision) old))) (record { size = sound.size; apart = apart; stored = stored })
+    by (Some c) is = record {
+      size = sound.size;
+      apart = formed_apart host_key c.renter_key tx c.sectors tx.contracts (changed_at revision.parent (cleared_by tx revision) old) apart new;
+      stored = All-append (IsStored sector) (changed_at revision.parent (cleared_by tx revision) old) (formed_by host_key c.renter_key tx c.sectors tx.contracts) stored (passes c is).renewed;
+    }
 
 -- the contract that is found stores what it has
 pub found_stores : (sector : ℕ) (id : List ℕ) (xs : List Kept) (c : Kept) → All (IsStored sector) xs → contract_among id xs ≡ Some c → IsStored sector c

@@ -9,7 +9,6 @@ use sia_ids::contract_id;
 use sia_types::{Blob, FileContract, Item, List, Revision, Transaction};
 use std::alloc::{AllocError, Global};
 use std::marker::Model;
-use std::mem::swap;
 
 /// A contract that the host knows.
 #[derive(Drop)]
@@ -62,14 +61,6 @@ impl KeptContract {
             signatures: List::new(alloc),
             sectors: Sectors::new(alloc),
         }))
-    }
-
-    /// Gives its sectors to another contract, which gives its own in their place. It takes no memory.
-    pub fn swap_sectors(&mut self, other: &mut KeptContract)
-        ensures gives { self.new ≡ record self.old { sectors = other.old.sectors } }
-        ensures takes { other.new ≡ record other.old { sectors = self.old.sectors } }
-    {
-        swap(&mut self.sectors, &mut other.sectors);
     }
 }
 

@@ -51,8 +51,12 @@ pub fn revise_kept(
     }
 }
 
-// The renter's signature and the host's. The error is want of memory.
-fn both_signatures(alloc: Global, renter: Blob, host: Blob) -> Result<List<Blob>, AllocError>
+/// The renter's signature and the host's. The error is want of memory.
+pub(crate) fn both_signatures(
+    alloc: Global,
+    renter: Blob,
+    host: Blob,
+) -> Result<List<Blob>, AllocError>
     ensures { IfOk result (λ signatures. signatures ≡ renter ∷ host ∷ []) }
 {
     let mut signatures = List::new(alloc);
@@ -99,8 +103,8 @@ fn revise_one(
     Ok(())
 }
 
-// The place of the contract with an identifier.
-fn place_of(contracts: &List<KeptContract>, id: &Hash) -> Option<usize>
+/// The place of the contract with an identifier.
+pub(crate) fn place_of(contracts: &List<KeptContract>, id: &Hash) -> Option<usize>
     ensures { result ≡ position (λ (c : Kept). bytes_eq c.id id.now) contracts.now }
 {
     contracts.as_slice().iter().position(|c| c.id == *id)

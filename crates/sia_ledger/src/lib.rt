@@ -28,7 +28,6 @@
 //!   the window of its contract's terms and, where they store something, correct. No contract is settled twice
 //!   ([`laws::contracts_are_settled_once`]).
 //! - [`Ledger::check_block`] and [`Ledger::apply`] count one step each, [`Ledger::revert`] none.
-//! - [`Typed`]: what is known of a value by its type alone, so that its spelling is no other value's.
 //!
 //! Want of memory is the one answer that no clause ties to a cause.
 //!
@@ -79,4 +78,3 @@ pub use params::Params;
 pub use sia_rules::BlockFault;
 pub use sia_types::{Block, Coin, CoinOutput, FundOutput, Terms};
 pub use sums::{Status, Sums};
-pub use typed::Typed;

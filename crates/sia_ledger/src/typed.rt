@@ -8,10 +8,9 @@ use sia_types::{
     Revision, Signature, StorageProof, Transaction, UnlockConditions,
 };
 
-/// A value whose parts are of their types: integers and bytes, arrays and lists have the sizes that Rust gives them. So it fits the
-/// greatest limit, and two such values that are spelled alike are one.
-pub trait Typed: Item {
-    /// Makes it known of the value. It changes nothing and takes no memory.
+/// A value whose parts are of their types: integers and bytes, arrays and lists have the sizes that Rust gives them.
+pub(crate) trait Typed: Item {
+    /// Makes it known of the value.
     fn know(&self)
         ensures { Self.codec.fits (2 ^ 64 - 1) self.now };
 }

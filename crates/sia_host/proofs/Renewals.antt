@@ -1,0 +1,138 @@
+-- A renewal that isn't refused clears the contract that the session holds, and the new one stores its sectors.
+use Rattle.std.proofs.Common.{◌≡◌, ◌∙◌, ◌*◌, ◌≤◌, ◌==◌, ◌&&◌, ℕ, Bool, true, false, not, List, [], ◌∷◌, ◌++◌, All, length, map, Option, Some, None, Result, Ok, Err, refl, sym, subst, ap, arith}
+use Rattle.std.specs.Prelude.{IsSome}
+use Rattle.std.proofs.lemmas.List.Elements.{All-cons, All-nil}
+use Rattle.sia_encoding.specs.declared.limits.TheConstants.{CONTRACT_SECTORS}
+use Rattle.sia_encoding.specs.Answer.{◌>>=◌, unless}
+use Rattle.sia_encoding.specs.Firsts.{broken}
+use Rattle.sia_merkle.specs.Roots.{node_root_of}
+use Rattle.sia_types.specs.declared.file_contracts.FileContract.{FileContract}
+use Rattle.sia_types.specs.declared.file_contracts.Revision.{Revision}
+use Rattle.sia_types.specs.declared.settings.Settings.{Settings}
+use Rattle.sia_types.specs.declared.signature.Signature.{Signature}
+use Rattle.sia_types.specs.declared.transaction.Transaction.{Transaction}
+use Rattle.sia_forms.specs.declared.fault.FormFault.{FormFault}
+use Rattle.sia_forms.specs.declared.funding.Additions.{Additions}
+use Rattle.sia_forms.specs.Building.{finished}
+use Rattle.sia_forms.specs.Checks.{asked_to_renew, contract_answer, has_no_other_part, is_cleared, one_contract, renew_answer}
+use Rattle.sia_forms.specs.Renewing.{clearing}
+use Rattle.sia_commands.specs.declared.codes.TheConstants.{CLEARED, TOO_LATE, WRONG_STATE}
+use Rattle.sia_records.specs.Stored.{Stored}
+use Rattle.sia_kept.specs.State.{Kept, IsSound, IsStored, after_renewal, cleared_by, contract_among, first_revision, formed_by, new_contract, root_in}
+use Rattle.sia_kept.proofs.Sound.{PassesOn, found_stores, sound_renewed}
+use Rattle.sia_host.specs.Answered.{Host, held_now, or_code, settings_now}
+use Rattle.sia_host.specs.Forming.{by_terms, funded, with_additions}
+use Rattle.sia_host.specs.Paying.{held_among, is_late, open_now, was_cleared}
+use Rattle.sia_host.specs.Proposals.{IsAddition}
+use Rattle.sia_host.specs.Renewing.{renew_judged, renewal_terms}
+use Rattle.sia_host.proofs.Opened.{opened_among}
+use Rattle.sia_host.proofs.Sound.{Begun, added_new, begins_as_asked, begun_so, no_root, whole_contracts, whole_new}
+
+-- a renewal that isn't refused, and the contract that it renews
+record Renews (h : Host) (session : ℕ) (tx : Transaction) : Type 0 where
+  old : Kept
+  collateral : ℕ
+  opened : open_now h session ≡ Ok old
+  answered : renew_answer tx old.newest (settings_now h) ≡ Ok collateral
+
+judged_renews : (h : Host) (session : ℕ) (tx : Transaction) (collateral : ℕ) → renew_judged h session tx ≡ Ok collateral → Renews h session tx
+judged_renews h session tx collateral = by (open_now h session) refl
+  where
+    terms : (c : Kept) (late : Bool) (answer : Result ℕ FormFault) → open_now h session ≡ Ok c → renew_answer tx c.newest (settings_now h) ≡ answer
+        → ((unless (broken late TOO_LATE) >>= (λ _. by_terms answer)) >>= funded h) ≡ Ok collateral → Renews h session tx
+    terms c true answer opened at is = (cc)
+    terms c false (Err fault) opened at is = (cc)
+    terms c false (Ok found) opened at is = record { old = c; collateral = found; opened = opened; answered = at }
+
+    by : (opened : Result Kept ℕ) → open_now h session ≡ opened → ((opened >>= renewal_terms h tx) >>= funded h) ≡ Ok collateral → Renews h session tx
+    by (Err code) at is = (cc)
+    by (Ok c) at is = terms c (is_late h c) (renew_answer tx c.newest (settings_now h)) at refl is
+
+-- so is one to which the host adds its part
+added_renews : (h : Host) (session : ℕ) (tx : Transaction) (added : Additions) → IsAddition h tx (renew_judged h session tx) added → Renews h session tx
+added_renews h session tx added = by (renew_judged h session tx) refl
+  where
+    by : (judged : Result ℕ ℕ) → renew_judged h session tx ≡ judged → IsAddition h tx judged added → Renews h session tx
+    by (Err code) at is = elim is [ ]
+    by (Ok collateral) at is = judged_renews h session tx collateral at
+
+-- a session whose contract is open holds one
+open_held : (h : Host) (session : ℕ) (c : Kept) → open_now h session ≡ Ok c → IsSome (held_now h session)
+open_held h session c = by (held_now h session)
+  where
+    by : (held : Option (List ℕ)) → ((or_code WRONG_STATE held >>= held_among h.state.contracts) >>= (λ k. unless (broken (was_cleared k) CLEARED) >>= (λ _. Ok k))) ≡ Ok c → IsSome held
+    by None is = (cc)
+    by (Some id) is = tt
+
+pub renewed_held : (h : Host) (session : ℕ) (tx : Transaction) (added : Additions) → IsAddition h tx (renew_judged h session tx) added → IsSome (held_now h session)
+renewed_held h session tx added is = let r = added_renews h session tx added is in open_held h session r.old r.opened
+
+-- the one contract of a renewal begins with what the old one stores
+renew_begins : (tx : Transaction) (newest : Revision) (s : Settings) (collateral : ℕ) → renew_answer tx newest s ≡ Ok collateral → Begun tx newest.size newest.root
+unfolding renew_answer
+renew_begins tx newest s collateral = by (is_cleared newest tx.revisions && has_no_other_part tx) tx.contracts refl
+  where
+    by : (fit : Bool) (cs : List FileContract) → tx.contracts ≡ cs → (one_contract fit cs >>= (λ c. contract_answer s (asked_to_renew s newest c) c)) ≡ Ok collateral → Begun tx newest.size newest.root
+    by true [] one is = (cc)
+    by true (c ∷ []) one is = begun_so tx newest.size newest.root newest.address c one (begins_as_asked s (asked_to_renew s newest c) c collateral is)
+    by true (c ∷ other ∷ more) one is = (cc)
+    by false cs one is = (cc)
+
+-- and its revision clears
+pub renew_clears : (tx : Transaction) (newest : Revision) (s : Settings) (collateral : ℕ) → renew_answer tx newest s ≡ Ok collateral → is_cleared newest tx.revisions ≡ true
+unfolding renew_answer
+renew_clears tx newest s collateral = by (is_cleared newest tx.revisions) (has_no_other_part tx) tx.contracts
+  where
+    by : (clears fit : Bool) (cs : List FileContract) → (one_contract (clears && fit) cs >>= (λ c. contract_answer s (asked_to_renew s newest c) c)) ≡ Ok collateral → clears ≡ true
+    by true fit cs is = refl
+    by false fit cs is = (cc)
+
+-- the new contract stores the sectors that pass on
+begun_stored : (sector : ℕ) (host_key renter_key : List ℕ) (tx : Transaction) (sectors : List Stored) (terms : FileContract) → length sectors ≤ CONTRACT_SECTORS → terms.size ≡ sector * length sectors
+    → terms.root ≡ node_root_of (map root_in sectors) → IsStored sector (new_contract host_key renter_key tx sectors terms)
+unfolding new_contract first_revision
+begun_stored sector host_key renter_key tx sectors terms few size root = record { parent = refl; few = few; size = size; root = root }
+
+-- the old one stores nothing any more
+cleared_stored : (sector : ℕ) (tx : Transaction) (old : Kept) → IsStored sector old → IsStored sector (cleared_by tx (clearing old.newest) old)
+unfolding clearing
+cleared_stored sector tx old stored = record { parent = stored.parent; few = omega arith; size = sym (*-zero sector); root = sym no_root }
+
+-- so the sectors pass on
+pub passes_on : (sector : ℕ) (host_key : List ℕ) (tx : Transaction) (old : Kept) → IsStored sector old → Begun tx old.newest.size old.newest.root → PassesOn sector host_key tx (clearing old.newest) old
+passes_on sector host_key tx old stored begun =
+    let one : IsStored sector (new_contract host_key old.renter_key tx old.sectors begun.terms) =
+    begun_stored sector host_key old.renter_key tx old.sectors begun.terms stored.few (begun.sized ∙ stored.size) (begun.rooted ∙ stored.root) in
+    record {
+      cleared = cleared_stored sector tx old stored;
+      renewed = subst (λ cs. All (IsStored sector) (formed_by host_key old.renter_key tx old.sectors cs)) (sym begun.one) (All-cons (IsStored sector) (new_contract host_key old.renter_key tx old.sectors begun.terms) [] one (All-nil (IsStored sector)));
+    }
+
+-- the clearing revision is of the contract that it clears
+same_parent : (newest : Revision) → (clearing newest).parent ≡ newest.parent
+unfolding clearing
+same_parent newest = refl
+
+-- the contract of the clearing revision is the one that the session holds
+pub is_old : (contracts : List Kept) (old c : Kept) → contract_among old.id contracts ≡ Some old → old.newest.parent ≡ old.id → contract_among (clearing old.newest).parent contracts ≡ Some c → c ≡ old
+is_old contracts old c there own found =
+    let mine : contract_among old.id contracts ≡ Some c = subst (λ id. contract_among id contracts ≡ Some c) (same_parent old.newest ∙ own) found in
+    let same : Some c ≡ Some old = sym mine ∙ there in
+    (cc)
+
+-- a host stays sound with a renewal, whoever signs it
+pub renewal_sound : (h : Host) (session : ℕ) (tx : Transaction) (added : Additions) → IsSound h.settings.sector h.state.contracts → IsAddition h tx (renew_judged h session tx) added
+    → ((c : Kept) → open_now h session ≡ Ok c → tx.revisions ≡ clearing c.newest ∷ [])
+    → (renter host : List Signature) → IsSound h.settings.sector (after_renewal h.settings.host_key (finished tx added renter host) h.state.contracts tx.revisions)
+renewal_sound h session tx added sound is clears renter host =
+    let r = added_renews h session tx added is in
+    let whole = finished tx added renter host in
+    let there : contract_among r.old.id h.state.contracts ≡ Some r.old = opened_among h session r.old r.opened in
+    let stored : IsStored h.settings.sector r.old = found_stores h.settings.sector r.old.id h.state.contracts r.old sound.stored there in
+    let begun = renew_begins tx r.old.newest (settings_now h) r.collateral r.answered in
+    let whole_begun : Begun whole r.old.newest.size r.old.newest.root =
+    record { terms = begun.terms; one = whole_contracts tx added renter host whole refl ∙ begun.one; sized = begun.sized; rooted = begun.rooted } in
+    let passes : (c : Kept) → contract_among (clearing r.old.newest).parent h.state.contracts ≡ Some c → PassesOn h.settings.sector h.settings.host_key whole (clearing r.old.newest) c =
+    λ c found. subst (PassesOn h.settings.sector h.settings.host_key whole (clearing r.old.newest)) (sym (is_old h.state.contracts r.old c there stored.parent found)) (passes_on h.settings.sector h.settings.host_key whole r.old stored whole_begun) in
+    subst (λ rs. IsSound h.settings.sector (after_renewal h.settings.host_key whole h.state.contracts rs)) (sym (clears r.old r.opened))
+    (sound_renewed h.settings.sector h.settings.host_key whole h.state.contracts (clearing r.old.newest) sound (whole_new h tx added renter host whole (added_new h tx (renew_judged h session tx) added is) refl) passes)
