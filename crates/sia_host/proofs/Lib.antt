@@ -7,6 +7,7 @@ pub mod Formed
 pub mod Walked
 pub mod Writable
 pub mod Sound
+pub mod Logged
 pub mod Opened
 pub mod Placed
 pub mod Askings
