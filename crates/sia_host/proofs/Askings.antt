@@ -1,5 +1,5 @@
 -- What is asked of a due contract, and the job that is made of it.
-use Rattle.std.proofs.Common.{◌≡◌, ◌≢◌, ℕ, zero, suc, ◌+◌, ◌-◌, ◌*◌, ◌/◌, ◌<◌, ◌≤◌, ◌&&◌, Bool, true, false, List, [], ◌∷◌, All, length, map, if◌then◌else◌, Option, Some, None, IsSome, refl, sym, ap, ◌∙◌, subst, arith, get_or}
+use Rattle.std.proofs.Common.{◌≡◌, ◌≢◌, ℕ, zero, suc, ◌+◌, ◌-◌, ◌*◌, ◌/◌, ◌<◌, ◌≤◌, ◌&&◌, Bool, true, false, List, [], ◌∷◌, All, length, map, if◌then◌else◌, Option, Some, None, IfSome, IsTrue, refl, sym, ap, ◌∙◌, subst, arith, get_or}
 use Rattle.std.specs.Prelude.{nat_le, not, ◌==◌, ◌||◌, slice_get}
 use Rattle.std.specs.List.{filter, find}
 use Rattle.std.specs.Option.{option_map, option_map_or}
@@ -87,14 +87,19 @@ next_is_due h id first c all is =
     least_fits (λ (x : Kept). (is_due h x ≡ true) × IsStored h.settings.sector x) (λ (x : Kept). x.id) least h.state.contracts c (each_due h behind h.state.contracts all)
     (walk_ends (λ (x : Kept). x.id) behind (is_due h) h.state.contracts (least_by (λ (x : Kept). x.id) least h.state.contracts) refl ∙ is)
 
+-- so it is, if there is one
+pub found_due : (h : Host) (id : List ℕ) (first : Bool) (found : Option Kept) → All (IsStored h.settings.sector) h.state.contracts → found ≡ next_after id first (due_contracts h) → IfSome found (λ c. IsTrue (is_due h c) × IsStored h.settings.sector c)
+found_due h id first None all is = tt
+found_due h id first (Some c) all is = next_is_due h id first c all (sym is)
+
 -- by the terms by which it runs
 pub due_by_terms : (h : Host) (c : Kept) (terms : Terms) → is_due h c ≡ true → terms_of h.state.chain c.id ≡ Some terms → is_due_by h c terms ≡ true
 due_by_terms h c terms due runs = subst (λ found. option_map_or (is_due_by h c) found false ≡ true) runs due
 
-due_parts : (size start next : ℕ) (e f : Bool) → (not (size == 0) && nat_le start next && e && f) ≡ true → (0 < size) × (start ≤ next)
-due_parts size start next e f is = cases (size == 0) (nat_le start next) refl refl is
+due_parts : (size start next : ℕ) (e f g : Bool) → (not (size == 0) && nat_le start next && e && f && g) ≡ true → (0 < size) × (start ≤ next)
+due_parts size start next e f g is = cases (size == 0) (nat_le start next) refl refl is
   where
-    cases : (a b : Bool) → (size == 0) ≡ a → nat_le start next ≡ b → (not a && b && e && f) ≡ true → (0 < size) × (start ≤ next)
+    cases : (a b : Bool) → (size == 0) ≡ a → nat_le start next ≡ b → (not a && b && e && f && g) ≡ true → (0 < size) × (start ≤ next)
     cases true b none under is = (cc)
     cases false false none under is = (cc)
     cases false true none under is = (omega (arith, eqb-false size 0 none), leb-true start next under)
@@ -102,7 +107,7 @@ due_parts size start next e f is = cases (size == 0) (nat_le start next) refl re
 -- it stores some sectors, and the chain has come to its window
 pub due_has : (h : Host) (c : Kept) (terms : Terms) → is_due_by h c terms ≡ true → IsStored h.settings.sector c → (0 < length c.sectors) × (terms.start ≤ height h.state.chain + 1)
 due_has h c terms due stored =
-    let parts = due_parts c.newest.size terms.start (next_height h) (nat_le (next_height h) terms.end) ((terms.size == c.newest.size) && bytes_eq terms.root c.newest.root) due in
+    let parts = due_parts c.newest.size terms.start (next_height h) (nat_le (next_height h) terms.end) (terms.size == c.newest.size) (bytes_eq terms.root c.newest.root) due in
     (some (length c.sectors) refl (rw stored.size at parts.0), parts.1)
   where
     some : (n : ℕ) → length c.sectors ≡ n → 0 < h.settings.sector * length c.sectors → 0 < n
@@ -116,6 +121,6 @@ pub has_block : (chain : Chain) (at : ℕ) → at ≤ height chain → id_at cha
 has_block chain at within none = has at (ids chain) (omega (arith, within, length-map chain.blocks block_id)) none
   where
     has : (i : ℕ) (xs : List (List ℕ)) → i < length xs → slice_get xs i ≢ None
-    has i [] below none = omega below
+    has i [] below none = omega (arith, below)
     has zero (x ∷ xs) below none = (cc)
     has (suc i) (x ∷ xs) below none = has i xs (omega (arith, below)) none

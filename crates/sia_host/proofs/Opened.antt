@@ -9,6 +9,7 @@ use Rattle.sia_kept.proofs.Apart.{found_id}
 use Rattle.sia_kept.proofs.Sound.{found_stores}
 use Rattle.sia_host.specs.Answered.{Host, held_now, or_code}
 use Rattle.sia_host.specs.Paying.{Payment, held_among, open_now, paid_revision, unrefused, was_cleared}
+use Rattle.sia_host.proofs.Writable.{same_contract}
 
 among_by : (contracts : List Kept) (id : List ℕ) (found : Option Kept) (c : Kept) → contract_among id contracts ≡ found → or_code WRONG_STATE found ≡ Ok c → contract_among c.id contracts ≡ Some c
 among_by contracts id None c at is = (cc)
@@ -25,25 +26,17 @@ held_by contracts (Some id) c is = among_by contracts id (contract_among id cont
 pub opened_among : (h : Host) (session : ℕ) (c : Kept) → open_now h session ≡ Ok c → contract_among c.id h.state.contracts ≡ Some c
 opened_among h session c = by (or_code WRONG_STATE (held_now h session) >>= held_among h.state.contracts) refl
   where
-    fine : (k : Kept) (f : Option ℕ) → (unless f >>= (λ _. Ok k)) ≡ Ok c → k ≡ c
-    fine k None is = (cc)
-    fine k (Some code) is = (cc)
-
     by : (holds : Result Kept ℕ) → (or_code WRONG_STATE (held_now h session) >>= held_among h.state.contracts) ≡ holds
         → (holds >>= (λ k. unless (broken (was_cleared k) CLEARED) >>= (λ _. Ok k))) ≡ Ok c → contract_among c.id h.state.contracts ≡ Some c
     by (Err code) at is = (cc)
     by (Ok k) at is =
-        let same : k ≡ c = fine k (broken (was_cleared k) CLEARED) is in
+        let same : k ≡ c = same_contract (broken (was_cleared k) CLEARED) k c is in
         held_by h.state.contracts (held_now h session) c (at ∙ ap Ok same)
 
 -- and so is one that isn't refused
 pub unrefused_opened : (fault : Kept → Option ℕ) (opened : Result Kept ℕ) (c : Kept) → unrefused fault opened ≡ Ok c → opened ≡ Ok c
 unrefused_opened fault (Err code) c is = (cc)
-unrefused_opened fault (Ok k) c is = by (fault k) is
-  where
-    by : (f : Option ℕ) → (unless f >>= (λ _. Ok k)) ≡ Ok c → Ok k ≡ Ok c
-    by None is = is
-    by (Some code) is = (cc)
+unrefused_opened fault (Ok k) c is = ap Ok (same_contract (fault k) k c is)
 
 -- the revision that pays stores what the newest one does
 pub paid_stores : (h : Host) (session : ℕ) (fault : Kept → Option ℕ) (c : Kept) (p : Payment) (sector : ℕ) → IsSound sector h.state.contracts → unrefused fault (open_now h session) ≡ Ok c

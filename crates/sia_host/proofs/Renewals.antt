@@ -1,6 +1,7 @@
 -- A renewal that isn't refused clears the contract that the session holds, and the new one stores its sectors.
 use Rattle.std.proofs.Common.{◌≡◌, ◌∙◌, ◌*◌, ◌≤◌, ◌==◌, ◌&&◌, ℕ, Bool, true, false, not, List, [], ◌∷◌, ◌++◌, All, length, map, Option, Some, None, Result, Ok, Err, refl, sym, subst, ap, arith}
 use Rattle.std.specs.Prelude.{IsSome}
+use Rattle.std.proofs.Math.Nat.{mul-zero}
 use Rattle.std.proofs.lemmas.List.Elements.{All-cons, All-nil}
 use Rattle.sia_encoding.specs.declared.limits.TheConstants.{CONTRACT_SECTORS}
 use Rattle.sia_encoding.specs.Answer.{◌>>=◌, unless}
@@ -96,7 +97,7 @@ begun_stored sector host_key renter_key tx sectors terms few size root = record 
 -- the old one stores nothing any more
 cleared_stored : (sector : ℕ) (tx : Transaction) (old : Kept) → IsStored sector old → IsStored sector (cleared_by tx (clearing old.newest) old)
 unfolding clearing
-cleared_stored sector tx old stored = record { parent = stored.parent; few = omega arith; size = sym (*-zero sector); root = sym no_root }
+cleared_stored sector tx old stored = record { parent = stored.parent; few = omega arith; size = sym (mul-zero sector); root = sym no_root }
 
 -- so the sectors pass on
 pub passes_on : (sector : ℕ) (host_key : List ℕ) (tx : Transaction) (old : Kept) → IsStored sector old → Begun tx old.newest.size old.newest.root → PassesOn sector host_key tx (clearing old.newest) old

@@ -151,6 +151,10 @@ product_fits sector count size few =
     let all : sector * count ≤ sector * 65536 = mul-le-mul_left sector few in
     omega arith
 
+-- what is found in one host is found in the same host
+pub found_now : (id : List ℕ) (c : Kept) (h now : Host) → h ≡ now → contract_among id h.state.contracts ≡ Some c → contract_among id now.state.contracts ≡ Some c
+found_now id c h now same at = subst (λ (k : Host). contract_among id k.state.contracts ≡ Some c) same at
+
 -- renewals
 
 -- the contract of a renewal that follows begins with what the old one stores

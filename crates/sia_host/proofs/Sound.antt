@@ -6,7 +6,7 @@ use Rattle.std.proofs.lemmas.List.Elements.{All-cons, All-nil}
 use Rattle.std.proofs.Math.Nat.{mul-zero}
 use Rattle.sia_encoding.specs.Answer.{◌>>=◌, unless}
 use Rattle.sia_encoding.specs.Firsts.{broken, ◌or_else◌}
-use Rattle.sia_merkle.specs.Roots.{node_root_of}
+use Rattle.sia_merkle.specs.Roots.{node_root_of, tree_root}
 use Rattle.sia_ids.specs.Transactions.{contract_id, made_text}
 use Rattle.sia_types.specs.declared.file_contracts.FileContract.{FileContract}
 use Rattle.sia_types.specs.declared.settings.Settings.{Settings}
@@ -90,7 +90,7 @@ judged_begins h session request collateral = by (idle_now h session) (form_answe
     by (Ok live) (Ok found) at is = form_begins request.transaction request.renter_key (settings_now h) found at
 
 pub no_root : node_root_of [] ≡ zero_hash
-unfolding node_root_of
+unfolding node_root_of tree_root
 no_root = refl
 
 -- a contract that stores nothing

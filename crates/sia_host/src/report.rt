@@ -1,6 +1,7 @@
 //! What a host reports of its contracts.
 ghost use Rattle.std.specs.Prelude.{◌≡◌, false, map, IfOk};
-ghost use Rattle.sia_host.specs.Reporting.{AreRows, report_row as report_row_so};
+ghost use Rattle.std.specs.List.Sorted.{IsPermutation, IsSorted};
+ghost use Rattle.sia_host.specs.Reporting.{AreRows, report_row as report_row_so, row_order};
 ghost use Rattle.sia_host.specs.Spoiling.{is_spoiled};
 
 use crate::host_core::Core;
@@ -37,8 +38,7 @@ impl Core {
         requires { is_spoiled self.now.phase ≡ false }
         ensures { IfOk result (λ rows. AreRows self.now rows) }
     {
-        let mut rows = self.unsorted_rows(alloc)?;
-        rows.sort_by_key(|row| row.contract)?;
+        let rows = in_order(self.unsorted_rows(alloc)?)?;
         Ok(List::from_vec(rows))
     }
 
@@ -69,4 +69,20 @@ impl Core {
             due,
         })
     }
+}
+
+// Rows by ascending identifiers of their contracts.
+fn in_order(rows: Vec<ReportRow>) -> Result<Vec<ReportRow>, AllocError>
+    ensures { IfOk result (λ ordered. IsPermutation rows.items ordered.items × IsSorted row_order ordered.items) }
+{
+    let mut ordered = rows;
+    ordered.sort_by_key(contract_of)?;
+    Ok(ordered)
+}
+
+// The contract of a row.
+fn contract_of(row: &ReportRow) -> Hash
+    ensures { result ≡ row.now.contract }
+{
+    row.contract
 }

@@ -84,8 +84,8 @@ impl Core {
             Command::Unlock => self.unlock(alloc, worker, session),
             Command::Fetch(want) => self.fetch(alloc, worker, session, want),
             Command::Write(write) => self.write(alloc, room, worker, session, write),
-            Command::WriteSign(_, _) => unreachable!(),
-            Command::Read(_) => unreachable!(),
+            Command::WriteSign(_, _) => Err(AllocError),
+            Command::Read(_) => Err(AllocError),
             Command::Roots(request) => {
                 self.roots(alloc, room, worker, session, request, check, signer)
             }

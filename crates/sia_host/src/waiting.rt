@@ -1,9 +1,9 @@
 //! Which contract is the next for which something is to be mined.
-ghost use Rattle.std.specs.Prelude.{◌≡◌, ◌+◌, ◌&&◌, ◌||◌, nat_le, option_copied, IfOk};
+ghost use Rattle.std.specs.Prelude.{◌≡◌, ◌+◌, ◌&&◌, ◌||◌, nat_le, option_copied, IfOk, IfSome, IsTrue};
 ghost use Rattle.sia_types.specs.declared.terms.Terms.{Terms as Agreed};
 ghost use Rattle.sia_host.specs.Jobs.{due_contracts, is_above as is_above_so, is_due as is_due_so, is_due_by, is_stale as is_stale_so, is_stale_by, next_after, stale_contracts};
 ghost use Rattle.sia_host.specs.Least.{lesser as lesser_so};
-ghost use Rattle.sia_kept.specs.State.{Kept};
+ghost use Rattle.sia_kept.specs.State.{IsStored, Kept};
 
 use crate::host_core::Core;
 use sia_blake::Hash;
@@ -41,7 +41,8 @@ impl Core {
         id: &Hash,
         first: bool,
     ) -> Result<Option<&KeptContract>, AllocError>
-        ensures { IfOk result (λ found. option_copied found ≡ next_after id.now first (due_contracts self.now)) }
+        ensures exact { IfOk result (λ found. option_copied found ≡ next_after id.now first (due_contracts self.now)) }
+        ensures ready { IfOk result (λ found. IfSome (option_copied found) (λ c. IsTrue (is_due_so self.now c) × IsStored self.now.settings.sector c)) }
     {
         let contracts = self.contracts.as_slice();
         let mut found = None;
