@@ -63,7 +63,7 @@ open_held h session c = by (held_now h session)
   where
     by : (held : Option (List ℕ)) → ((or_code WRONG_STATE held >>= held_among h.state.contracts) >>= (λ k. unless (broken (was_cleared k) CLEARED) >>= (λ _. Ok k))) ≡ Ok c → IsSome held
     by None is = (cc)
-    by (Some id) is = tt
+    by (Some id) is = refl
 
 pub renewed_held : (h : Host) (session : ℕ) (tx : Transaction) (added : Additions) → IsAddition h tx (renew_judged h session tx) added → IsSome (held_now h session)
 renewed_held h session tx added is = let r = added_renews h session tx added is in open_held h session r.old r.opened
