@@ -27,7 +27,7 @@ use Rattle.sia_records.specs.declared.host_record.HostRecord.{HostRecord}
 use Rattle.sia_records.specs.declared.host_record.HostRecord.TheVariants as records
 use Rattle.sia_records.specs.Reads.{Read, is_served}
 use Rattle.sia_records.specs.Stored.{changes_of, slots_behind, step_of}
-use Rattle.sia_records.specs.Writes.{Applied, Prepared, actions_fit, is_prepared, left_behind, new_by, sectors_of, step_by, steps_of, taken_by, with_sectors}
+use Rattle.sia_records.specs.Writes.{Prepared}
 use Rattle.sia_records.proofs.Slots.{steps_again}
 use Rattle.sia_commands.specs.declared.call.Call.{Call}
 use Rattle.sia_commands.specs.declared.codes.TheConstants.{BAD_ACTION, BAD_RANGE, NO_SECTOR, STORE_FULL}

@@ -23,3 +23,5 @@ pub mod FormedOut
 pub mod RevisedOut
 pub mod CommandsOut
 pub mod WrittenOut
+pub mod RenewalsOut
+pub mod AnswersOut

@@ -41,8 +41,8 @@ brought (step.Trim fewer ∷ others) = brought others
 brought (step.Swap one other ∷ others) = brought others
 brought (step.Set place root ∷ others) = suc (brought others)
 
-no_slot : (n : ℕ) → suc n ≤ length [] → ⊥
-no_slot n few = absurd (let none : suc n ≤ 0 = few in omega arith)
+no_slot : (n : ℕ) → suc n ≤ 0 → ⊥
+no_slot n few = absurd (omega (arith, few))
 
 -- they take the first slots, in order
 takes_first : (steps : List DiffStep) (slots : List ℕ) → brought steps ≤ length slots → filter_map slot_taken (changes_of steps slots) ≡ take (brought steps) slots

@@ -137,6 +137,11 @@ replays accepts h (records.Formed renter_key tx) = formed_replays accepts h rent
 replays accepts h (records.Revised revision renter host done) = option_map_or (revises_contract accepts h revision renter done) (contract_among revision.parent h.state.contracts) false
 replays accepts h (records.Renewed tx) = renewed_replays accepts h tx tx.revisions
 
+-- whether a record is of a renewal
+abbrev pub is_renewal : HostRecord → Bool
+is_renewal (records.Renewed tx) = true
+is_renewal other = false
+
 -- payloads
 
 -- A payload is a record: it spells it whole and without a rest. No length and no count of it is above the payload's own length.
