@@ -1,5 +1,5 @@
 -- What any command records follows on what the host knew.
-use Rattle.std.proofs.Common.{◌≡◌, ◌∙◌, ℕ, Bool, true, false, List, [], ◌∷◌, Option, Some, None, MatchOption, Result, Ok, Err, refl, sym, ap}
+use Rattle.std.proofs.Common.{◌≡◌, ◌∙◌, ℕ, Bool, true, false, List, Option, Some, None, MatchOption, Result, Ok, Err, refl, sym, ap}
 use Rattle.std.specs.Option.{option_and_then, option_map}
 use Rattle.sia_encoding.specs.Firsts.{broken}
 use Rattle.sia_types.specs.declared.transaction.Transaction.{Transaction}
@@ -14,8 +14,6 @@ use Rattle.sia_commands.specs.declared.event.Outcome.TheVariants as outcome
 use Rattle.sia_commands.specs.declared.reply.Reply.TheVariants as reply
 use Rattle.sia_commands.specs.declared.step.Room.{Room}
 use Rattle.sia_rhp.specs.declared.answer.Answer.TheVariants as answer
-use Rattle.sia_rhp.specs.declared.request_bodies.FormRequest.{FormRequest}
-use Rattle.sia_records.specs.Writes.{Prepared}
 use Rattle.sia_kept.specs.declared.session.Session.{Session}
 use Rattle.sia_kept.specs.State.{Kept, IsSound}
 use Rattle.sia_host.specs.declared.outbox.Due.{Due}
@@ -24,14 +22,14 @@ use Rattle.sia_host.specs.Answered.{Host, Reaction, answered, held_now, holder_n
 use Rattle.sia_host.specs.Answers.{IsAnswer}
 use Rattle.sia_host.specs.Entering.{enter_reaction, leave_given, settings_reaction}
 use Rattle.sia_host.specs.Fetching.{fetch_given, slot_wanted}
-use Rattle.sia_host.specs.Forming.{IsFormed, IsProposed, form_added, form_judged, is_formed}
+use Rattle.sia_host.specs.Forming.{IsProposed, form_added, form_judged, is_formed}
 use Rattle.sia_host.specs.Jobs.{due_contracts, next_after, stale_contracts}
 use Rattle.sia_host.specs.Locking.{lock_given, lock_judged, unlock_given}
 use Rattle.sia_host.specs.Outbox.{asking, due_handed, due_now, stale_handed, stale_of}
 use Rattle.sia_host.specs.Paying.{IsHeld, open_now}
-use Rattle.sia_host.specs.Renewing.{IsRenewed, renew_added, renew_judged}
+use Rattle.sia_host.specs.Renewing.{renew_added, renew_judged}
 use Rattle.sia_host.specs.Replaying.{HasLeast, is_renewal, replays}
-use Rattle.sia_host.specs.Writing.{IsWritten, write_fault, write_proof}
+use Rattle.sia_host.specs.Writing.{write_fault, write_proof}
 use Rattle.sia_host.proofs.FormedOut.{formed_out}
 use Rattle.sia_host.proofs.CommandsOut.{applied_out, read_out, reverted_out, roots_out}
 use Rattle.sia_host.proofs.RenewalsOut.{renewal_made}

@@ -1,51 +1,31 @@
 -- What a command records follows on what the host knew.
-use Rattle.std.proofs.Common.{◌≡◌, ◌∙◌, ◌+◌, ◌<◌, ◌≤◌, ℕ, zero, suc, Bool, true, false, not, ◌&&◌, ◌==◌, List, [], ◌∷◌, length, map, take, drop, Option, Some, None, Result, Ok, Err, refl, sym, ap, subst, arith}
-use Rattle.std.specs.Prelude.{nat_le, nat_lt}
-use Rattle.std.specs.List.{filter_map, flat_map}
+use Rattle.std.proofs.Common.{◌≡◌, ◌∙◌, ℕ, zero, suc, Bool, true, false, not, List, [], Option, Some, None, Ok, refl, sym, ap, subst, arith}
 use Rattle.std.specs.Option.{is_none}
-use Rattle.std.specs.Str.{bytes_eq}
-use Rattle.std.proofs.lemmas.Bool.{lt-ltb, ltb-false}
-use Rattle.std.proofs.lemmas.List.{length-take-le}
-use Rattle.std.proofs.lemmas.Slice.Eq.{bytes_eq-Decides}
-use Rattle.sia_encoding.specs.Answer.{◌>>=◌, unless}
+use Rattle.std.proofs.lemmas.Bool.{lt-ltb}
 use Rattle.sia_encoding.specs.Firsts.{broken, ◌or_else◌}
-use Rattle.sia_encoding.specs.declared.limits.TheConstants.{ACTIONS}
-use Rattle.sia_diff.specs.declared.steps.DiffStep.{DiffStep}
-use Rattle.sia_diff.specs.declared.steps.DiffStep.TheVariants as step
-use Rattle.sia_diff.specs.DiffSteps.{is_fit}
-use Rattle.sia_diff.proofs.Counts.{left_of_and}
 use Rattle.sia_types.specs.declared.block.Block.{Block}
 use Rattle.sia_rules.specs.declared.fault.BlockFault.{BlockFault}
 use Rattle.sia_ledger.specs.Chain.{height}
 use Rattle.sia_ledger.specs.Refusal.{refusal}
 use Rattle.sia_price.specs.declared.priced.Priced.TheVariants as priced
-use Rattle.sia_rhp.specs.declared.action.Action.{Action}
-use Rattle.sia_rhp.specs.declared.action.Action.TheVariants as actions
 use Rattle.sia_rhp.specs.declared.request_bodies.PaidRoots.{PaidRoots}
-use Rattle.sia_records.specs.declared.change.Change.{Change}
 use Rattle.sia_records.specs.declared.host_record.HostRecord.{HostRecord}
 use Rattle.sia_records.specs.declared.host_record.HostRecord.TheVariants as records
 use Rattle.sia_records.specs.Reads.{Read, is_served}
-use Rattle.sia_records.specs.Stored.{changes_of, slots_behind, step_of}
-use Rattle.sia_records.specs.Writes.{Prepared}
-use Rattle.sia_records.proofs.Slots.{steps_again}
 use Rattle.sia_commands.specs.declared.call.Call.{Call}
-use Rattle.sia_commands.specs.declared.codes.TheConstants.{BAD_ACTION, BAD_RANGE, NO_SECTOR, STORE_FULL}
+use Rattle.sia_commands.specs.declared.codes.TheConstants.{BAD_RANGE, NO_SECTOR, STORE_FULL}
 use Rattle.sia_commands.specs.declared.event.Kind.TheVariants as kind
-use Rattle.sia_commands.specs.declared.event.Outcome.TheVariants as outcome
-use Rattle.sia_commands.specs.declared.reply.Reply.TheVariants as reply
 use Rattle.sia_commands.specs.declared.step.Room.{Room}
-use Rattle.sia_kept.specs.State.{Kept, IsSound, IsStored, live_slots}
+use Rattle.sia_kept.specs.State.{Kept, IsSound, IsStored}
 use Rattle.sia_kept.proofs.Sound.{found_stores}
-use Rattle.sia_host.specs.Answered.{Host, Reaction, answered, lacks_room, no_work, refused}
+use Rattle.sia_host.specs.Answered.{Host, Reaction, lacks_room, no_work}
 use Rattle.sia_host.specs.Feeding.{apply_given, apply_reaction, no_session, recorded_unless, revert_given, revert_reaction}
 use Rattle.sia_host.specs.Paying.{IsRevised, open_now, paid_revision, unpaid}
 use Rattle.sia_host.specs.Reading.{AreRoots, IsRead, has_sectors, is_outside, read_fault, read_payment, read_price, read_said, roots_fault, roots_payment, roots_said}
-use Rattle.sia_host.specs.Replaying.{changes_fit, least_free, replays, slot_taken, takes_least}
-use Rattle.sia_host.specs.Writing.{IsWriteSigned, can_write, write_fault, write_payment, write_price, write_signed, write_work, written_changes, written_revision}
+use Rattle.sia_host.specs.Replaying.{replays}
 use Rattle.sia_host.proofs.FormedOut.{refused_none}
 use Rattle.sia_host.proofs.Opened.{opened_among}
-use Rattle.sia_host.proofs.RevisedOut.{Paid, held_out, nothing_changed, paid_so, paying_follows, revised_out}
+use Rattle.sia_host.proofs.RevisedOut.{held_out, nothing_changed, paid_so, paying_follows, revised_out}
 
 -- blocks
 

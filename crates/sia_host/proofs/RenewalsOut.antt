@@ -1,5 +1,5 @@
 -- What a signed renewal records is a renewal.
-use Rattle.std.proofs.Common.{◌≡◌, ◌∙◌, ℕ, Bool, true, false, List, Option, Some, None, MatchOption, Result, Ok, Err, refl, sym, ap}
+use Rattle.std.proofs.Common.{◌≡◌, ◌∙◌, ℕ, Bool, true, false, List, Option, Some, None, MatchOption, Result, Ok, Err, sym, ap}
 use Rattle.sia_encoding.specs.Firsts.{broken}
 use Rattle.sia_types.specs.declared.signature.Signature.{Signature}
 use Rattle.sia_types.specs.declared.transaction.Transaction.{Transaction}
@@ -14,7 +14,7 @@ use Rattle.sia_commands.specs.declared.event.Kind.TheVariants as kind
 use Rattle.sia_commands.specs.declared.step.Room.{Room}
 use Rattle.sia_host.specs.Answered.{Host, Reaction, held_now, lacks_room, refused}
 use Rattle.sia_host.specs.Forming.{IsProposed, is_formed, keeping_fault}
-use Rattle.sia_host.specs.Renewing.{IsRenewSigned, RenewsSigned, renew_judged, renew_kept, renew_unless}
+use Rattle.sia_host.specs.Renewing.{IsRenewSigned, RenewsSigned, renew_judged, renew_unless}
 use Rattle.sia_host.specs.Replaying.{is_renewal}
 use Rattle.sia_host.proofs.FormedOut.{refused_none}
 

@@ -1,5 +1,5 @@
 -- A record that follows keeps the host sound.
-use Rattle.std.proofs.Common.{◌≡◌, ◌∙◌, ◌*◌, ◌+◌, ◌^◌, ◌<◌, ◌≤◌, ℕ, Bool, true, false, not, ◌&&◌, ◌==◌, List, [], ◌∷◌, All, length, map, Option, Some, None, Result, Ok, Err, IfOk, refl, sym, ap, subst, arith}
+use Rattle.std.proofs.Common.{◌≡◌, ◌∙◌, ◌*◌, ◌^◌, ◌<◌, ◌≤◌, ℕ, Bool, true, false, not, ◌&&◌, ◌==◌, List, [], ◌∷◌, All, length, map, Some, Result, Ok, Err, IfOk, refl, sym, ap, subst, arith}
 use Rattle.std.specs.Prelude.{nat_le}
 use Rattle.std.specs.Option.{is_none}
 use Rattle.std.proofs.Math.Nat.{mul-le-mul_left, pow-le-pow_right}
@@ -8,7 +8,7 @@ use Rattle.std.proofs.lemmas.List.{length-map}
 use Rattle.std.proofs.lemmas.List.Elements.{All-cons, All-nil}
 use Rattle.sia_encoding.specs.declared.limits.TheConstants.{ACTIONS}
 use Rattle.sia_merkle.specs.Roots.{node_root_of}
-use Rattle.sia_diff.specs.DiffSteps.{after, count_after, is_fit}
+use Rattle.sia_diff.specs.DiffSteps.{count_after, is_fit}
 use Rattle.sia_diff.proofs.Counts.{left_of_and, right_of_and}
 use Rattle.sia_diff.proofs.Fit.{fit_count, fit_done}
 use Rattle.sia_diff.proofs.Moves.{count_bound, length_after}

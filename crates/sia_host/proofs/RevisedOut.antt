@@ -1,8 +1,6 @@
 -- A revision that a host keeps follows on what it knew.
-use Rattle.std.proofs.Common.{◌≡◌, ◌∙◌, ◌*◌, ◌≤◌, ℕ, Bool, true, false, not, ◌&&◌, ◌||◌, ◌==◌, List, [], ◌∷◌, length, map, Option, Some, None, MatchOption, Result, Ok, Err, refl, sym, ap, subst, arith}
-use Rattle.std.specs.Prelude.{nat_le}
+use Rattle.std.proofs.Common.{◌≡◌, ◌∙◌, ◌≤◌, ℕ, Bool, true, false, not, ◌&&◌, ◌||◌, ◌==◌, List, [], ◌∷◌, length, Option, Some, None, MatchOption, Result, Ok, Err, refl, sym, ap, subst, arith}
 use Rattle.std.specs.Option.{is_some, option_map_or}
-use Rattle.std.specs.Str.{bytes_eq}
 use Rattle.std.proofs.lemmas.Bool.{eqb-true}
 use Rattle.std.proofs.lemmas.Slice.Eq.{bytes_eq-Decides}
 use Rattle.sia_encoding.specs.Answer.{◌>>=◌, unless}
@@ -29,7 +27,7 @@ use Rattle.sia_kept.specs.State.{Kept, IsSound, IsStored, contract_among}
 use Rattle.sia_kept.proofs.Sound.{found_stores, nothing_fits}
 use Rattle.sia_host.specs.Answered.{Host, Reaction, Work, held_now, lacks_room, or_code, refused}
 use Rattle.sia_host.specs.Paying.{IsHeld, IsRevised, Payment, cost_now, held_among, is_late, is_low, open_now, paid_revision, revised_unless, revising_fault, signs_revision, unpaid, was_cleared}
-use Rattle.sia_host.specs.Replaying.{changes_fit, expected, payment_in, replays, revises_contract, takes_least}
+use Rattle.sia_host.specs.Replaying.{changes_fit, expected, payment_in, replays, revises_contract}
 use Rattle.sia_host.proofs.FormedOut.{refused_none}
 use Rattle.sia_host.proofs.Opened.{opened_among}
 

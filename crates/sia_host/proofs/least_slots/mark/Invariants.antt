@@ -1,4 +1,4 @@
-use Rattle.std.proofs.Common.{◌≡◌, length, take}
+use Rattle.std.proofs.Common.{take}
 use Rattle.sia_host.specs.Marks.{AreMarked}
 use Rattle.sia_host.proofs.least_slots.mark.Given as goal
 

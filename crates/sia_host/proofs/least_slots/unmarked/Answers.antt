@@ -1,4 +1,4 @@
-use Rattle.std.proofs.Common.{◌≡◌, ◌∙◌, ◌++◌, ◌∷◌, [], not, sym, ap}
+use Rattle.std.proofs.Common.{◌∙◌, ◌++◌, ◌∷◌, [], not, sym, ap}
 use Rattle.sia_host.specs.Marks.{is_unmarked}
 use Rattle.sia_diff.proofs.Counts.{filter_one, filter_not}
 use Rattle.sia_host.proofs.least_slots.unmarked.Goals as goal

@@ -1,5 +1,5 @@
 -- A payload is a record exactly where all of it was read.
-use Rattle.std.proofs.Common.{◌≡◌, ◌∙◌, sym}
+use Rattle.std.proofs.Common.{◌∙◌, sym}
 use Rattle.sia_host.proofs.Payloads.{read_none, read_part}
 use Rattle.sia_host.proofs.replaying.record_in.Goals as goal
 

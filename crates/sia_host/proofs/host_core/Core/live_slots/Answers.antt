@@ -1,5 +1,5 @@
 -- The slots of one contract more.
-use Rattle.std.proofs.Common.{◌≡◌, ◌∙◌, ◌++◌, List, ap, map}
+use Rattle.std.proofs.Common.{◌∙◌, ◌++◌, List, ap, map}
 use Rattle.sia_records.specs.Stored.{Stored}
 use Rattle.sia_kept.specs.State.{Kept}
 use Rattle.sia_host.proofs.Marking.{live_more}

@@ -1,5 +1,5 @@
 -- The contract isn't known and stores what it has, so the host stays sound; and no step was taken back.
-use Rattle.std.proofs.Common.{◌≡◌, ◌∙◌, true, false, [], All, ap, subst, sym}
+use Rattle.std.proofs.Common.{◌≡◌, ◌∙◌, true, false, ap, subst, sym}
 use Rattle.sia_ids.specs.Transactions.{contract_id as id_of}
 use Rattle.sia_kept.specs.State.{is_among}
 use Rattle.sia_kept.proofs.Sound.{sound_formed}

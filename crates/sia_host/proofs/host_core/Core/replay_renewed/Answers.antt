@@ -1,5 +1,5 @@
 -- The sectors pass on, so the host stays sound; and no step was taken back.
-use Rattle.std.proofs.Common.{◌≡◌, ◌∙◌, false, ap, subst, sym}
+use Rattle.std.proofs.Common.{◌∙◌, ap, subst, sym}
 use Rattle.sia_kept.specs.State.{IsSound, after_renewal}
 use Rattle.sia_host.specs.Answered.{Host}
 use Rattle.sia_host.specs.Spoiling.{is_spoiled}

@@ -1,5 +1,5 @@
 -- The contract stores what the changes make of its sectors, so the host stays sound; and no step was taken back.
-use Rattle.std.proofs.Common.{◌≡◌, ◌∙◌, false, Some, ap, subst, sym}
+use Rattle.std.proofs.Common.{◌≡◌, ◌∙◌, Some, ap, subst, sym}
 use Rattle.sia_kept.specs.State.{IsSound, IsStored, Kept, contract_among, revised_contract}
 use Rattle.sia_kept.proofs.Sound.{sound_revised}
 use Rattle.sia_host.specs.Answered.{Host}

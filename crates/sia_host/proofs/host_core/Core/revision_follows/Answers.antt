@@ -1,5 +1,5 @@
 -- The contract is one that the host knows.
-use Rattle.std.proofs.Common.{◌≡◌, ◌∙◌, ap, subst, sym}
+use Rattle.std.proofs.Common.{◌∙◌, ap, subst, sym}
 use Rattle.sia_kept.specs.State.{IsSound, contract_among}
 use Rattle.sia_host.specs.Answered.{Host}
 use Rattle.sia_host.proofs.Replayed.{stores_on}
