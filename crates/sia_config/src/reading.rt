@@ -65,8 +65,8 @@ fn config(
 /// order of [`crate::ConfigKey`], whose value is of another type or out of its range. [`ConfigFault::Memory`] for want of
 /// memory.
 ///
-/// A chain of accepted parameters begins with nothing but memory, and what a host's core, journal and shelf and a renter's
-/// book need of sizes and limits holds.
+/// The genesis of accepted parameters is refused for want of memory alone, and the sizes and limits are such as a host's
+/// core, journal and shelf and a renter's file need.
 #[tactic(auto, unfolding(crate::specs::Config::config_of))]
 pub fn read_config(alloc: Global, bytes: &[u8]) -> Result<Config, ConfigFault>
     ensures exact { Answers (λ value. value) config_told result (config_of bytes.now) }

@@ -8,6 +8,7 @@ pub mod Walked
 pub mod Writable
 pub mod Sound
 pub mod Logged
+pub mod Stepped
 pub mod Opened
 pub mod Placed
 pub mod Askings

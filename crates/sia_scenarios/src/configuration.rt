@@ -167,6 +167,21 @@ fn check_refused(
     )
 }
 
+/// Each of these values refuses the key.
+fn check_each_refused(
+    rt: &(impl Alloc<A = Global> + Abort),
+    table: &str,
+    key: &str,
+    values: &[&str],
+) -> Result<(), Fail> {
+    let case = [table, ".", key].concat(rt.alloc())?;
+    for value in values {
+        let text = format!(in rt.alloc(); "[{table}]\n{key} = {value}\n{CONFIG}")?;
+        check_refused(rt, value, text.as_str(), case.as_str())?;
+    }
+    Ok(())
+}
+
 #[test]
 fn a_value_out_of_range_or_of_another_type_is_refused_by_its_key(
     rt: HostRuntime,
@@ -203,11 +218,7 @@ fn a_value_out_of_range_or_of_another_type_is_refused_by_its_key(
         ("renter", "file_limit", &["1023", "4294967297", "{}"]),
     ];
     for (table, key, values) in keys {
-        let case = [table, ".", key].concat(rt.alloc())?;
-        for value in values {
-            let text = format!(in rt.alloc(); "[{table}]\n{key} = {value}\n{CONFIG}")?;
-            check_refused(&rt, value, text.as_str(), case.as_str())?;
-        }
+        check_each_refused(&rt, table, key, values)?;
     }
     Ok(())
 }
