@@ -1,8 +1,8 @@
 -- A renewal that isn't refused clears the contract that the session holds, and the new one stores its sectors.
-use Rattle.std.proofs.Common.{◌≡◌, ◌∙◌, ◌*◌, ◌≤◌, ◌==◌, ◌&&◌, ℕ, Bool, true, false, not, List, [], ◌∷◌, ◌++◌, All, length, map, Option, Some, None, Result, Ok, Err, refl, sym, subst, ap, arith}
-use Rattle.std.specs.Prelude.{IsSome}
-use Rattle.std.proofs.Math.Nat.{mul-zero}
+use Rattle.std.proofs.Common.{◌≡◌, ◌∙◌, ◌*◌, ◌-◌, ◌^◌, ◌≤◌, ◌==◌, ◌&&◌, ℕ, Bool, true, false, not, List, [], ◌∷◌, ◌++◌, All, length, map, Option, Some, None, Result, Ok, Err, refl, sym, subst, ap, arith}
+use Rattle.std.specs.Prelude.{IfOk, IsSome}
 use Rattle.std.proofs.lemmas.List.Elements.{All-cons, All-nil}
+use Rattle.std.proofs.Math.Nat.{mul-zero}
 use Rattle.sia_encoding.specs.declared.limits.TheConstants.{CONTRACT_SECTORS}
 use Rattle.sia_encoding.specs.Answer.{◌>>=◌, unless}
 use Rattle.sia_encoding.specs.Firsts.{broken}
@@ -12,6 +12,7 @@ use Rattle.sia_types.specs.declared.file_contracts.Revision.{Revision}
 use Rattle.sia_types.specs.declared.settings.Settings.{Settings}
 use Rattle.sia_types.specs.declared.signature.Signature.{Signature}
 use Rattle.sia_types.specs.declared.transaction.Transaction.{Transaction}
+use Rattle.sia_types.specs.FileContracts.{revision}
 use Rattle.sia_forms.specs.declared.fault.FormFault.{FormFault}
 use Rattle.sia_forms.specs.declared.funding.Additions.{Additions}
 use Rattle.sia_forms.specs.Building.{finished}
@@ -20,12 +21,14 @@ use Rattle.sia_forms.specs.Renewing.{clearing}
 use Rattle.sia_commands.specs.declared.codes.TheConstants.{CLEARED, TOO_LATE, WRONG_STATE}
 use Rattle.sia_records.specs.Stored.{Stored}
 use Rattle.sia_kept.specs.State.{Kept, IsSound, IsStored, after_renewal, cleared_by, contract_among, first_revision, formed_by, new_contract, root_in}
+use Rattle.sia_kept.proofs.Cleared.{cleared_alone}
 use Rattle.sia_kept.proofs.Sound.{PassesOn, found_stores, sound_renewed}
 use Rattle.sia_host.specs.Answered.{Host, held_now, or_code, settings_now}
 use Rattle.sia_host.specs.Forming.{by_terms, funded, with_additions}
 use Rattle.sia_host.specs.Paying.{held_among, is_late, open_now, was_cleared}
-use Rattle.sia_host.specs.Proposals.{IsAddition}
-use Rattle.sia_host.specs.Renewing.{renew_judged, renewal_terms}
+use Rattle.sia_host.specs.declared.refusal.Refusal.{Refusal}
+use Rattle.sia_host.specs.Proposals.{IsAddition, Proposes}
+use Rattle.sia_host.specs.Renewing.{renew_judged, renew_terms, renewal_terms}
 use Rattle.sia_host.proofs.Opened.{opened_among}
 use Rattle.sia_host.proofs.Sound.{Begun, added_new, begins_as_asked, begun_so, no_root, whole_contracts, whole_new}
 
@@ -65,7 +68,7 @@ open_held h session c = by (held_now h session)
     by None is = (cc)
     by (Some id) is = refl
 
-pub renewed_held : (h : Host) (session : ℕ) (tx : Transaction) (added : Additions) → IsAddition h tx (renew_judged h session tx) added → IsSome (held_now h session)
+renewed_held : (h : Host) (session : ℕ) (tx : Transaction) (added : Additions) → IsAddition h tx (renew_judged h session tx) added → IsSome (held_now h session)
 renewed_held h session tx added is = let r = added_renews h session tx added is in open_held h session r.old r.opened
 
 -- the one contract of a renewal begins with what the old one stores
@@ -80,7 +83,7 @@ renew_begins tx newest s collateral = by (is_cleared newest tx.revisions && has_
     by false cs one is = (cc)
 
 -- and its revision clears
-pub renew_clears : (tx : Transaction) (newest : Revision) (s : Settings) (collateral : ℕ) → renew_answer tx newest s ≡ Ok collateral → is_cleared newest tx.revisions ≡ true
+renew_clears : (tx : Transaction) (newest : Revision) (s : Settings) (collateral : ℕ) → renew_answer tx newest s ≡ Ok collateral → is_cleared newest tx.revisions ≡ true
 unfolding renew_answer
 renew_clears tx newest s collateral = by (is_cleared newest tx.revisions) (has_no_other_part tx) tx.contracts
   where
@@ -122,7 +125,7 @@ is_old contracts old c there own found =
     (cc)
 
 -- a host stays sound with a renewal, whoever signs it
-pub renewal_sound : (h : Host) (session : ℕ) (tx : Transaction) (added : Additions) → IsSound h.settings.sector h.state.contracts → IsAddition h tx (renew_judged h session tx) added
+renewal_sound : (h : Host) (session : ℕ) (tx : Transaction) (added : Additions) → IsSound h.settings.sector h.state.contracts → IsAddition h tx (renew_judged h session tx) added
     → ((c : Kept) → open_now h session ≡ Ok c → tx.revisions ≡ clearing c.newest ∷ [])
     → (renter host : List Signature) → IsSound h.settings.sector (after_renewal h.settings.host_key (finished tx added renter host) h.state.contracts tx.revisions)
 renewal_sound h session tx added sound is clears renter host =
@@ -137,3 +140,28 @@ renewal_sound h session tx added sound is clears renter host =
     λ c found. subst (PassesOn h.settings.sector h.settings.host_key whole (clearing r.old.newest)) (sym (is_old h.state.contracts r.old c there stored.parent found)) (passes_on h.settings.sector h.settings.host_key whole r.old stored whole_begun) in
     subst (λ rs. IsSound h.settings.sector (after_renewal h.settings.host_key whole h.state.contracts rs)) (sym (clears r.old r.opened))
     (sound_renewed h.settings.sector h.settings.host_key whole h.state.contracts (clearing r.old.newest) sound (whole_new h tx added renter host whole (added_new h tx (renew_judged h session tx) added is) refl) passes)
+
+-- so it does where a proposal is answered with what the host adds
+pub proposed_sound : (h : Host) (session : ℕ) (tx : Transaction) (result : Result Additions Refusal) → IsSound h.settings.sector h.state.contracts → Proposes h tx (renew_judged h session tx) result
+    → ((c : Kept) → open_now h session ≡ Ok c → tx.revisions ≡ clearing c.newest ∷ [])
+    → IfOk result (λ added. (renter host : List Signature) → IsSound h.settings.sector (after_renewal h.settings.host_key (finished tx added renter host) h.state.contracts tx.revisions))
+proposed_sound h session tx (Ok added) sound is clears = renewal_sound h session tx added sound is clears
+proposed_sound h session tx (Err refusal) sound is clears = tt
+
+pub proposed_held : (h : Host) (session : ℕ) (tx : Transaction) (result : Result Additions Refusal) → Proposes h tx (renew_judged h session tx) result → IfOk result (λ _. IsSome (held_now h session))
+proposed_held h session tx (Ok added) is = renewed_held h session tx added is
+proposed_held h session tx (Err refusal) is = tt
+
+-- the revision of a renewal whose terms are what the host asks for clears the contract that is open
+pub terms_clear : (tx : Transaction) (s : Settings) (collateral : ℕ) (opened : Result Kept ℕ) (contract : Kept) (newest : Revision) → opened ≡ Ok contract → newest ≡ contract.newest
+    → revision.fits (2 ^ 64 - 1) newest → All (revision.fits (2 ^ 64 - 1)) tx.revisions → renew_answer tx newest s ≡ Ok collateral → (c : Kept) → opened ≡ Ok c → tx.revisions ≡ clearing c.newest ∷ []
+terms_clear tx s collateral opened contract newest is same fits all answered c at =
+    let one : contract ≡ c = (cc) in
+    let own : newest ≡ c.newest = same ∙ ap (λ (k : Kept). k.newest) one in
+    cleared_alone newest tx.revisions fits all (renew_clears tx newest s collateral answered) ∙ ap (λ r. clearing r ∷ []) own
+
+-- the whole transaction has the revisions of the proposal
+pub whole_sound : (sector : ℕ) (host_key : List ℕ) (contracts : List Kept) (tx : Transaction) (added : Additions) (renter host : List Signature) (whole : Transaction) → whole ≡ finished tx added renter host
+    → IsSound sector (after_renewal host_key (finished tx added renter host) contracts tx.revisions) → IsSound sector (after_renewal host_key whole contracts whole.revisions)
+unfolding finished
+whole_sound sector host_key contracts tx added renter host whole is sound = subst (λ (t : Transaction). IsSound sector (after_renewal host_key t contracts t.revisions)) (sym is) sound

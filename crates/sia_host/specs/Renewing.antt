@@ -27,10 +27,14 @@ use Rattle.sia_host.specs.Answered.{Reaction, Host, answered, held_now, lacks_ro
 abbrev pub renewal_terms : Host → Transaction → Kept → Result ℕ ℕ
 renewal_terms h tx c = unless (broken (is_late h c) TOO_LATE) >>= (λ _. by_terms (renew_answer tx c.newest (settings_now h)))
 
+-- the collateral by the terms of a renewal of the contract that a session holds, or the code
+abbrev pub renew_terms : Host → ℕ → Transaction → Result ℕ ℕ
+renew_terms h session tx = open_now h session >>= renewal_terms h tx
+
 -- the collateral that the host is to give in a renewal; or the code of the first of these: the session holds no contract; it was
 -- cleared; its window is too near; the terms aren't what the host asks for; its free coins are worth less than the collateral
 abbrev pub renew_judged : Host → ℕ → Transaction → Result ℕ ℕ
-renew_judged h session tx = (open_now h session >>= renewal_terms h tx) >>= funded h
+renew_judged h session tx = renew_terms h session tx >>= funded h
 
 -- the answer to a proposal of a renewal: what the host adds
 abbrev pub renew_added : Host → Call → Additions → Reaction

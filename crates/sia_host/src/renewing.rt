@@ -1,6 +1,6 @@
 //! Contracts that are renewed.
 ghost use Rattle.std.specs.Prelude.{◌≡◌, [], ◌∷◌, List as Sequence, None, Some, IfOk, IsSome, OnErr};
-ghost use Rattle.sia_encoding.specs.Answer.{◌>>=◌, Answers as Tells};
+ghost use Rattle.sia_encoding.specs.Answer.{Answers as Tells};
 ghost use Rattle.sia_forms.specs.Building.{finished};
 ghost use Rattle.sia_forms.specs.Renewing.{clearing};
 ghost use Rattle.sia_records.specs.declared.host_record.HostRecord.TheVariants as records;
@@ -10,7 +10,7 @@ ghost use Rattle.sia_host.specs.Forming.{with_additions as with_additions_so};
 ghost use Rattle.sia_host.specs.Paying.{open_now};
 ghost use Rattle.sia_host.specs.Proposals.{Proposes};
 ghost use Rattle.sia_host.specs.Refusals.{code_told};
-ghost use Rattle.sia_host.specs.Renewing.{AreRenewalSigned, IsRenewed, IsRenewSigned, RenewsSigned, renew_judged, renew_kept as renew_kept_so, renew_unless, renewal_terms as renewal_terms_so};
+ghost use Rattle.sia_host.specs.Renewing.{AreRenewalSigned, IsRenewed, IsRenewSigned, RenewsSigned, renew_judged, renew_kept as renew_kept_so, renew_unless, renew_terms as renew_terms_so};
 ghost use Rattle.sia_kept.specs.State.{IsSound, Kept, after_renewal};
 
 use crate::feeding::{frame, judge_set, lacks_room};
@@ -105,13 +105,13 @@ impl Core {
         ensures sound { IfOk result (λ added. (renter host : Sequence Signed) → IsSound self.now.settings.sector (after_renewal self.now.settings.host_key (finished tx.now added renter host) self.now.state.contracts tx.now.revisions)) }
     {
         let _known = &self.contracts;
-        let collateral = self.renewal_terms(alloc, session, tx)?;
+        let collateral = self.renew_terms(alloc, session, tx)?;
         self.host_part(alloc, tx, collateral)
     }
 
     // The collateral by the terms of a renewal.
-    fn renewal_terms(&self, alloc: Global, session: u64, tx: &Transaction) -> Result<u128, Refusal>
-        ensures terms { Tells (λ collateral. collateral) code_told result (open_now self.now session >>= renewal_terms_so self.now tx.now) }
+    fn renew_terms(&self, alloc: Global, session: u64, tx: &Transaction) -> Result<u128, Refusal>
+        ensures terms { Tells (λ collateral. collateral) code_told result (renew_terms_so self.now session tx.now) }
         ensures clears { IfOk result (λ _. (c : Kept) → open_now self.now session ≡ Ok c → tx.now.revisions ≡ clearing c.newest ∷ []) }
     {
         let contract = self.open(session)?;
