@@ -19,3 +19,13 @@ pub mod Sectioned
 pub mod Written
 pub mod Renewals
 pub mod RenewalsSigned
+pub mod Marking
+pub mod Spelled
+pub mod Payloads
+pub mod Replayed
+pub mod FormedOut
+pub mod RevisedOut
+pub mod CommandsOut
+pub mod WrittenOut
+pub mod RenewalsOut
+pub mod AnswersOut

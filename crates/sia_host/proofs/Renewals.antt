@@ -102,7 +102,8 @@ cleared_stored : (sector : ℕ) (tx : Transaction) (old : Kept) → IsStored sec
 unfolding clearing
 cleared_stored sector tx old stored = record { parent = stored.parent; few = omega arith; size = sym (mul-zero sector); root = sym no_root }
 
-passes_on : (sector : ℕ) (host_key : List ℕ) (tx : Transaction) (old : Kept) → IsStored sector old → Begun tx old.newest.size old.newest.root → PassesOn sector host_key tx (clearing old.newest) old
+-- so the sectors pass on
+pub passes_on : (sector : ℕ) (host_key : List ℕ) (tx : Transaction) (old : Kept) → IsStored sector old → Begun tx old.newest.size old.newest.root → PassesOn sector host_key tx (clearing old.newest) old
 passes_on sector host_key tx old stored begun =
     let one : IsStored sector (new_contract host_key old.renter_key tx old.sectors begun.terms) =
     begun_stored sector host_key old.renter_key tx old.sectors begun.terms stored.few (begun.sized ∙ stored.size) (begun.rooted ∙ stored.root) in
@@ -117,7 +118,7 @@ unfolding clearing
 same_parent newest = refl
 
 -- the contract of the clearing revision is the one that the session holds
-is_old : (contracts : List Kept) (old c : Kept) → contract_among old.id contracts ≡ Some old → old.newest.parent ≡ old.id → contract_among (clearing old.newest).parent contracts ≡ Some c → c ≡ old
+pub is_old : (contracts : List Kept) (old c : Kept) → contract_among old.id contracts ≡ Some old → old.newest.parent ≡ old.id → contract_among (clearing old.newest).parent contracts ≡ Some c → c ≡ old
 is_old contracts old c there own found =
     let mine : contract_among old.id contracts ≡ Some c = subst (λ id. contract_among id contracts ≡ Some c) (same_parent old.newest ∙ own) found in
     let same : Some c ≡ Some old = sym mine ∙ there in

@@ -94,7 +94,7 @@ unfolding node_root_of tree_root
 no_root = refl
 
 -- a contract that stores nothing
-empty_stored : (sector : ℕ) (host_key renter_key : List ℕ) (tx : Transaction) (terms : FileContract) → terms.size ≡ 0 → terms.root ≡ zero_hash → IsStored sector (new_contract host_key renter_key tx [] terms)
+pub empty_stored : (sector : ℕ) (host_key renter_key : List ℕ) (tx : Transaction) (terms : FileContract) → terms.size ≡ 0 → terms.root ≡ zero_hash → IsStored sector (new_contract host_key renter_key tx [] terms)
 unfolding new_contract first_revision
 empty_stored sector host_key renter_key tx terms size root = record { parent = refl; few = omega arith; size = size ∙ sym (mul-zero sector); root = root ∙ sym no_root }
 

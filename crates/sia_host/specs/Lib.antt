@@ -17,5 +17,6 @@ pub mod Renewing
 pub mod Jobs
 pub mod Reporting
 pub mod Replaying
+pub mod Marks
 pub mod Least
 pub mod Outbox

@@ -1,6 +1,6 @@
 -- Which records follow on what a host knows: those that some command makes, whatever the settings and the room of their day, the
 -- host's additions and its own signature of a revision.
-use Rattle.std.specs.Prelude.{◌≡◌, ℕ, ◌+◌, ◌*◌, Bool, true, false, List, [], ◌∷◌, length, map, take, nat_lt, nat_le, not, ◌==◌, ◌&&◌, Option, Some, None, if◌then◌else◌}
+use Rattle.std.specs.Prelude.{◌≡◌, ℕ, ◌+◌, ◌*◌, ◌≤◌, Bool, true, false, List, [], ◌∷◌, length, map, take, nat_lt, nat_le, not, ◌==◌, ◌&&◌, Option, Some, None, if◌then◌else◌}
 use Rattle.std.specs.List.{filter, filter_map, range_with_len}
 use Rattle.std.specs.Option.{is_none, option_map_or}
 use Rattle.std.specs.Str.{bytes_eq}
@@ -23,10 +23,13 @@ use Rattle.sia_records.specs.declared.change.Change.{Change}
 use Rattle.sia_records.specs.declared.change.Change.TheVariants as changes
 use Rattle.sia_records.specs.declared.host_record.HostRecord.{HostRecord}
 use Rattle.sia_records.specs.declared.host_record.HostRecord.TheVariants as records
+use Rattle.sia_records.specs.HostRecords.{host_record}
 use Rattle.sia_records.specs.Stored.{step_of}
-use Rattle.sia_kept.specs.State.{Kept, contract_among, is_among, is_free_slot, live_slots, roots_of}
+use Rattle.sia_commands.specs.declared.step.Room.{Room}
+use Rattle.sia_kept.specs.State.{Kept, contract_among, is_among, is_free_slot, live_slots, roots_of, with_record}
+use Rattle.sia_host.specs.declared.phase.Phase.TheVariants as phase
 use Rattle.sia_host.specs.Paying.{Payment, is_late, is_low, paid_revision, signs_revision, was_cleared}
-use Rattle.sia_host.specs.Answered.{Host}
+use Rattle.sia_host.specs.Answered.{Host, record_payload}
 
 -- contracts that begin
 
@@ -89,6 +92,10 @@ least_free live count = take count (filter (is_free_slot live) (range_with_len 0
 abbrev pub same_numbers : List ℕ → List ℕ → Bool
 same_numbers some others = bytes_eq some others
 
+-- The slots that a command finds free are the least free ones: so many of them, from the first on, are the least ones of so many.
+abbrev pub HasLeast : Host → Room → Type 0
+HasLeast h room = (n : ℕ) → n ≤ length room.free → take n room.free ≡ least_free (live_slots h.state) n
+
 -- the slots that changes take are the least free ones, in order
 abbrev pub takes_least : Host → List Change → Bool
 takes_least h done = let taken = filter_map slot_taken done in same_numbers taken (least_free (live_slots h.state) (length taken))
@@ -129,3 +136,30 @@ replays accepts h records.Revert = nat_lt 0 (height h.state.chain)
 replays accepts h (records.Formed renter_key tx) = formed_replays accepts h renter_key tx
 replays accepts h (records.Revised revision renter host done) = option_map_or (revises_contract accepts h revision renter done) (contract_among revision.parent h.state.contracts) false
 replays accepts h (records.Renewed tx) = renewed_replays accepts h tx tx.revisions
+
+-- whether a record is of a renewal
+abbrev pub is_renewal : HostRecord → Bool
+is_renewal (records.Renewed tx) = true
+is_renewal other = false
+
+-- payloads
+
+-- A payload is a record: it spells it whole and without a rest. No length and no count of it is above the payload's own length.
+pub record IsPayload (payload : List ℕ) (made : HostRecord) : Type 0 where
+  pub fits : host_record.fits (length payload) made
+  pub whole : payload ≡ record_payload made
+
+-- a host that has a record more by its journal: its events stay, and no step is to be taken back any more
+abbrev pub with_made : Host → HostRecord → Host
+with_made h made = record h { state = with_record h.settings.host_key h.state made; phase = phase.Settled }
+
+-- A record is replayed so: the answer is whether it follows; then the host knows it, and else all is as before.
+pub record IsReplayed (accepts : List ℕ → List ℕ → List ℕ → Bool) (h : Host) (made : HostRecord) (follows : Bool) (after : Host) : Type 0 where
+  pub judged : follows ≡ replays accepts h made
+  pub host : after ≡ (if follows then with_made h made else h)
+
+-- A payload is replayed so: where it is a record that follows, the host knows that one; where it is no record that follows, all is as
+-- before.
+abbrev pub ReplaysPayload : (List ℕ → List ℕ → List ℕ → Bool) → Host → List ℕ → Bool → Host → Type 0
+ReplaysPayload accepts h payload true after = (made : HostRecord) × IsPayload payload made × (replays accepts h made ≡ true) × (after ≡ with_made h made)
+ReplaysPayload accepts h payload false after = ((made : HostRecord) → IsPayload payload made → replays accepts h made ≡ false) × (after ≡ h)

@@ -230,9 +230,9 @@ pub(crate) fn judge_set<C: SigCheck>(
     }
 }
 
-// The rule that a block breaks; where it breaks none, it is put behind the last one.
+/// The rule that a block breaks; where it breaks none, it is put behind the last one. The error is want of memory.
 #[tactic(auto, using(crate::proofs::Judged::fault_said, crate::proofs::Judged::nothing_said))]
-fn put_block<C: SigCheck>(
+pub(crate) fn put_block<C: SigCheck>(
     alloc: Global,
     ledger: &mut Ledger,
     block: &Block,
@@ -298,8 +298,8 @@ fn judge_counted<C: SigCheck, L: StepBook>(
     ledger.check_block(alloc, block, check, &mut steps)
 }
 
-// Drops the last block, of which there is one.
-fn drop_block(ledger: &mut Ledger) -> Result<(), AllocError>
+/// Drops the last block, of which there is one. The error is want of memory.
+pub(crate) fn drop_block(ledger: &mut Ledger) -> Result<(), AllocError>
     requires { 0 < height ledger.old }
     ensures ok { OnOk result (ledger.new ≡ shortened ledger.old) }
     ensures err { OnErr result (ledger.new ≡ ledger.old) }

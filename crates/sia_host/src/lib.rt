@@ -22,6 +22,9 @@
 //!   sectors and the root over their roots. After want of memory all is as before.
 //! - For the next stale contract its newest revision is handed out by [`Core::step`], or the renewal that this stands in; for the next due
 //!   one a job that lacks the bytes of a sector. Each due contract has one ([`laws::due_jobs_are_made`]).
+//! - [`Core::replay`] answers true exactly where a payload of the journal is a record, spelled whole and without a rest, that follows on
+//!   what the host knows: some command would make it, whatever the settings and the room of its day. Then the host knows it; else all is
+//!   as before. What a command makes a record of replays, but for renewals of which this isn't shown ([`laws::records_replay`]).
 //! - [`Core::events`], [`Core::sums`], [`Core::tip`] and [`Core::records`] are those of the present host.
 //!
 //! # Stands on
@@ -39,8 +42,10 @@ mod feeding;
 mod fetching;
 mod forming;
 mod freeing;
+mod forming_again;
 mod host_core;
 pub mod laws;
+mod least_slots;
 mod locking;
 mod outbox;
 mod paying;
@@ -49,9 +54,13 @@ mod proposals;
 mod reading;
 mod refusal;
 mod renewing;
+mod renewing_again;
+mod replaying;
 mod report;
 mod revising;
 mod sections;
+mod revising_again;
+mod same_revision;
 mod stepping;
 mod waiting;
 mod write_signing;

@@ -68,15 +68,15 @@ impl Core {
     }
 }
 
-// Whether a renewal has cleared a contract.
-fn was_cleared(contract: &KeptContract) -> bool
+/// Whether a renewal has cleared a contract.
+pub(crate) fn was_cleared(contract: &KeptContract) -> bool
     ensures { result ≡ was_cleared_so contract.now }
 {
     contract.newest.number == u64::MAX
 }
 
-// Whether the number of a new revision isn't above the newest one, or is the greatest of all.
-fn is_low(contract: &KeptContract, number: u64) -> bool
+/// Whether the number of a new revision isn't above the newest one, or is the greatest of all.
+pub(crate) fn is_low(contract: &KeptContract, number: u64) -> bool
     ensures { result ≡ is_low_so contract.now number }
 {
     number <= contract.newest.number || number == u64::MAX

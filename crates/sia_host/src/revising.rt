@@ -141,8 +141,8 @@ pub(crate) fn sign_revision<G: Signer>(
     signer.sign(alloc, &hash)
 }
 
-// Whether the renter's signature of a revision is accepted. The error is want of memory.
-fn signs_revision<C: SigCheck>(
+/// Whether the renter's signature of a revision is accepted. The error is want of memory.
+pub(crate) fn signs_revision<C: SigCheck>(
     alloc: Global,
     renter_key: &[u8; 32],
     signed: &SignedRevision,

@@ -14,7 +14,8 @@
 //! - [`cost`] is exactly the bandwidth part, the storage part and the collateral of a call, each no more than 2^128 - 1
 //!   hastings; [`duration`] is how many blocks a contract still lasts, and 0 where it has ended.
 //! - [`check_payment`] refuses exactly, in this order: another count of values, another sum, a renter's valid value that falls
-//!   by less than is due, and values that don't follow the cost where nothing is proved. It takes no memory.
+//!   by less than is due, and values that don't follow the cost where nothing is proved. It takes no memory. The first two are
+//!   judged by [`has_same_counts`] and [`has_same_sums`] alone.
 //! - [`revise`] is exactly the revision that pays, and `None` exactly where the renter hasn't what is due; what it makes is
 //!   accepted ([`laws::revised_is_accepted`]).
 //! - [`with_terms`] is the revision with other values, number, size and root, and all else as it was.
@@ -30,7 +31,7 @@ mod priced;
 mod pricing;
 mod revising;
 
-pub use payment::{PayFault, check_payment};
+pub use payment::{PayFault, check_payment, has_same_counts, has_same_sums};
 pub use priced::{Cost, Priced};
 pub use pricing::{cost, duration};
 pub use revising::{revise, with_terms};

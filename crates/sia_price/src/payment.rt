@@ -1,7 +1,7 @@
 //! Whether a revision's values pay for a call (RHP2; siad's modules/negotiate.go).
 ghost use Rattle.std.specs.Prelude.{◌≡◌, ℕ, ◌+◌, ◌*◌, ◌^◌, ◌<◌, length, sum, slice_index, nat_lt, ◌==◌, ◌&&◌, not};
 ghost use Rattle.sia_encoding.specs.Answer.{Answers, itself, unless};
-ghost use Rattle.sia_price.specs.Payments.{HasBothParties, cuts_host, fall, falls_alike, falls_short, has_same_counts, has_same_sums, least_kept, payment_fault, robs_void, values_of};
+ghost use Rattle.sia_price.specs.Payments.{HasBothParties, cuts_host, fall, falls_alike, falls_short, has_same_counts as has_same_counts_so, has_same_sums as has_same_sums_so, least_kept, payment_fault, robs_void, values_of};
 
 use crate::priced::Cost;
 use sia_types::{CoinOutput, Revision};
@@ -37,14 +37,11 @@ pub fn check_payment(
 ) -> Result<(), PayFault>
     ensures { Answers (λ _. tt) itself result (unless (payment_fault old.now valid.now missed.now cost.now)) }
 {
-    if valid.len() != old.valid.len() || missed.len() != old.missed.len() {
+    if !has_same_counts(old, valid, missed) || !has_same_sums(old, valid, missed) {
         return Err(PayFault::Unbalanced);
     }
     let old_valid = old.valid.as_slice();
     let old_missed = old.missed.as_slice();
-    if !has_sum_of(valid, old_valid) || !has_sum_of(missed, old_missed) {
-        return Err(PayFault::Unbalanced);
-    }
     let due = cost.due();
     let had = value_of_output(old_valid, 0);
     let has = value_at(valid, 0);
@@ -59,6 +56,20 @@ pub fn check_payment(
         return Err(PayFault::Unbalanced);
     }
     Ok(())
+}
+
+/// Whether values are as many as the outputs of a revision. It takes no memory.
+pub fn has_same_counts(old: &Revision, valid: &[u128], missed: &[u128]) -> bool
+    ensures { result ≡ has_same_counts_so old.now valid.now missed.now }
+{
+    valid.len() == old.valid.len() && missed.len() == old.missed.len()
+}
+
+/// Whether values have the same sums as the outputs of a revision. It takes no memory.
+pub fn has_same_sums(old: &Revision, valid: &[u128], missed: &[u128]) -> bool
+    ensures { result ≡ has_same_sums_so old.now valid.now missed.now }
+{
+    has_sum_of(valid, old.valid.as_slice()) && has_sum_of(missed, old.missed.as_slice())
 }
 
 // Whether the missed values follow the renter's fall and the cost.
