@@ -3,6 +3,7 @@ use Rattle.std.proofs.Common.{◌≡◌, ◌∙◌, ℕ, List, All, Option, Some
 use Rattle.sia_encoding.specs.Answer.{◌>>=◌, unless}
 use Rattle.sia_encoding.specs.Firsts.{broken}
 use Rattle.sia_commands.specs.declared.codes.TheConstants.{CLEARED, WRONG_STATE}
+use Rattle.sia_types.specs.declared.file_contracts.Revision.{Revision}
 use Rattle.sia_price.specs.Payments.{revision_with}
 use Rattle.sia_kept.specs.State.{Kept, IsSound, IsStored, contract_among}
 use Rattle.sia_kept.proofs.Apart.{found_id}
@@ -50,3 +51,10 @@ paid_stores h session fault c p sector sound is k found =
     let one : k ≡ c = (cc) in
     subst (λ x. IsStored sector (record x { newest = paid_revision c p c.newest.size c.newest.root })) (sym one)
     (record { parent = stored.parent; few = stored.few; size = stored.size; root = stored.root })
+
+-- as does one that is the same
+pub same_stores : (h : Host) (fault : Kept → Option ℕ) (c : Kept) (p : Payment) (session : ℕ) (revision : Revision) → IsSound h.settings.sector h.state.contracts → unrefused fault (open_now h session) ≡ Ok c
+    → revision ≡ paid_revision c p c.newest.size c.newest.root
+    → (k : Kept) → contract_among revision.parent h.state.contracts ≡ Some k → IsStored h.settings.sector (record k { newest = revision })
+same_stores h fault c p session revision sound is pays =
+    subst (λ (r : Revision). (k : Kept) → contract_among r.parent h.state.contracts ≡ Some k → IsStored h.settings.sector (record k { newest = r })) (sym pays) (paid_stores h session fault c p h.settings.sector sound is)

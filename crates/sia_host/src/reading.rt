@@ -96,11 +96,12 @@ impl Core {
         let host = sign_revision(alloc, &revision, signer)?;
         let signature = host.copy(alloc)?;
         let ToldRoots { roots, hashes } = told;
+        let changes = List::new(alloc);
         let signed = SignedRevision {
             revision,
             renter,
             host,
-            changes: List::new(alloc),
+            changes,
         };
         let reply = Reply::Said(Answer::Roots(RootsAnswer {
             signature,

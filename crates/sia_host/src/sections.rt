@@ -53,8 +53,9 @@ impl Core {
                     id: contract.id,
                     renter_key: contract.renter_key,
                 };
-                let revision = read_revision(alloc, contract, read.request())?;
-                let renter = read.request().signature.copy(alloc)?;
+                let request = read.request();
+                let revision = read_revision(alloc, contract, request)?;
+                let renter = request.signature.copy(alloc)?;
                 let parts = read.into_parts();
                 self.read_paid(
                     alloc, room, call, party, parts, revision, renter, check, signer,
@@ -82,11 +83,12 @@ impl Core {
     {
         let host = sign_revision(alloc, &revision, signer)?;
         let signature = host.copy(alloc)?;
+        let changes = List::new(alloc);
         let signed = SignedRevision {
             revision,
             renter,
             host,
-            changes: List::new(alloc),
+            changes,
         };
         let reply = Reply::Said(Answer::Read(ReadAnswer { signature, parts }));
         let work = ShelfWork::none(alloc);
