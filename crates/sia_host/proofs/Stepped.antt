@@ -23,17 +23,16 @@ phase_by h (Some event) p false longer is =
     absurd (omega (arith, ltb-false (length h.events) (length (h.events ++ event ∷ [])) (sym longer), length-append h.events (event ∷ [])))
 
 -- a step is answered, and the phase follows
-pub stepped : {E : Type 0} (Fits : Reaction → Type 0) (h mid : Host) (result : Result Step E) (past : Past) (b : Bool) (p : Phase)
-    → IfOk result (λ step. Gives Fits h step mid) → past ≡ past_of h → b ≡ nat_lt (length h.events) (length mid.events) → p ≡ (if b then phase_after mid.phase past else mid.phase)
-    → IfOk result (λ step. IsStep Fits h step (record mid { phase = p }))
-stepped Fits h mid (Err e) past b p gives before longer is = tt
-stepped Fits h mid (Ok step) past b p gives before longer is =
+pub stepped_one : (Fits : Reaction → Type 0) (h mid : Host) (step : Step) (past : Past) (b : Bool) (p : Phase)
+    → Gives Fits h step mid → past ≡ past_of h → b ≡ nat_lt (length h.events) (length mid.events) → p ≡ (if b then phase_after mid.phase past else mid.phase)
+    → IsStep Fits h step (record mid { phase = p })
+stepped_one Fits h mid step past b p gives before longer is =
     let a = gives.0 in
     let reaction = gives.1.1 in
     let same : mid ≡ after_answer h a = reaction.host in
     let longer_so : b ≡ nat_lt (length h.events) (length (h.events ++ option_to_list a.event)) = longer ∙ ap (λ (m : Host). nat_lt (length h.events) (length m.events)) same in
     let is_so : p ≡ (if b then phase_after h.phase (past_of h) else h.phase) =
-    is ∙ ap (λ (m : Host). if b then phase_after m.phase past else m.phase) same ∙ ap (λ q. if b then phase_after h.phase q else h.phase) before in
+        is ∙ ap (λ (m : Host). if b then phase_after m.phase past else m.phase) same ∙ ap (λ q. if b then phase_after h.phase q else h.phase) before in
     let own : IsReaction h a step (after_answer h a) = subst (λ m. IsReaction h a step m) same reaction in
     (a, gives.1.0, subst (λ (m : Host). IsReaction h a step (record m { phase = h.phase })) (sym same) own, phase_by h a.event p b longer_so is_so)
 

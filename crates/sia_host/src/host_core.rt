@@ -5,7 +5,7 @@ ghost use Rattle.sia_ledger.specs.Chain.{begun};
 ghost use Rattle.sia_ledger.specs.Genesis.{genesis_refusal};
 ghost use Rattle.sia_commands.specs.declared.event.Outcome.TheVariants as outcome;
 ghost use Rattle.sia_commands.specs.declared.reply.Reply.TheVariants as reply;
-ghost use Rattle.sia_kept.specs.State.{Kept, first_state};
+ghost use Rattle.sia_kept.specs.State.{IsSound, Kept, first_state};
 ghost use Rattle.sia_host.specs.Answered.{IsReaction, Host, answered, contract_now, event_of, held_now, idle_now, refused, settings_now};
 ghost use Rattle.sia_host.specs.declared.phase.Phase.TheVariants as phase;
 ghost use Rattle.sia_host.specs.Spoiling.{past_of, told_now};
@@ -125,6 +125,13 @@ impl Core {
             tip: self.ledger.tip(),
             records: self.records,
         }
+    }
+
+    /// What always holds of its contracts, told for the proof alone.
+    pub(crate) fn tell_sound(&self)
+        ensures { IsSound self.now.settings.sector self.now.state.contracts }
+    {
+        let _margin = self.margin;
     }
 
     /// The settings, with the height of the chain.

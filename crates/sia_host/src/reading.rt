@@ -58,6 +58,7 @@ impl Core {
             kind: Kind::Roots,
         };
         let held = self.held(session);
+        self.tell_sound();
         match self.judge_roots(session, &request) {
             Err(Refusal::Memory) => Err(AllocError),
             Err(Refusal::Code(code)) => self.refuse(alloc, call, held, code),

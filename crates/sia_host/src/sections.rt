@@ -45,6 +45,7 @@ impl Core {
             kind: Kind::Read,
         };
         let held = self.held(session);
+        self.tell_sound();
         match self.judge_read(session, &read) {
             Err(Refusal::Memory) => Err(AllocError),
             Err(Refusal::Code(code)) => self.refuse(alloc, call, held, code),

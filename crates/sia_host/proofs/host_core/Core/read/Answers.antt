@@ -18,7 +18,7 @@ returns-in-Err-Code-clause-gives g c =
     let h = c.args.self.now in
     refuses_so h call (open_now h c.args.session) (read_fault h c.args.read)
     (λ k a. IsRevised g.C.SigCheck.verdict (g.G.Signer.Makes (g.G.Signer.public_key c.args.signer.now)) h c.args.room.now call k.id k.renter_key (paid_revision k (read_payment c.args.read.request) k.newest.size k.newest.root) c.args.read.request.signature [] (read_said c.args.read) no_work a)
-    c.in-Err-Code.code c.refuse.result c.refuse.new.self (rw c.in-Err-Code.field-0-is at c.in-Err-Code.ensures) (rw (← c.held-held.ensures) (rw c.in-Err-Code.field-0-is at c.refuse.ensures.gives))
+    c.in-Err-Code.code c.refuse.result c.refuse.new.self (rw c.in-Err-Code.field-0-is at c.in-Err-Code.ensures) (rw (← c.held-held.ensures) c.refuse.ensures.gives)
 
 pub into_parts-parts-requires : goal.into_parts-parts-requires
 into_parts-parts-requires g c = (c.args.self.now.settings.sector, is_ready c.args.self.now c.args.read (open_now c.args.self.now c.args.session) c.in-Ok.contract.now c.in-Ok.ensures)
@@ -26,10 +26,10 @@ into_parts-parts-requires g c = (c.args.self.now.settings.sector, is_ready c.arg
 pub read_paid-requires : goal.read_paid-requires
 read_paid-requires g c =
     let h = c.args.self.now in
-    let sound : IsSound h.settings.sector h.state.contracts = subst (λ (x : Host). IsSound x.settings.sector x.state.contracts) c.self.view_is c.self.invariant.0 in
+    let sound : IsSound h.settings.sector h.state.contracts = c.tell_sound.ensures in
     let pays : c.in_ok-revision-in-Ok.revision ≡ paid_revision c.in-Ok.contract.now (read_payment c.args.read.request) c.in-Ok.contract.now.newest.size c.in-Ok.contract.now.newest.root =
     c.in_ok-revision-in-Ok.ensures ∙ ap (λ (r : ReadRequest). paid_revision c.in-Ok.contract.now (read_payment r) c.in-Ok.contract.now.newest.size c.in-Ok.contract.now.newest.root) c.request-request.ensures in
-    same_stores h (read_fault h c.args.read) c.in-Ok.contract.now (read_payment c.args.read.request) c.args.session c.in_ok-revision-in-Ok.revision sound c.in-Ok.ensures pays
+    record { stores = same_stores h (read_fault h c.args.read) c.in-Ok.contract.now (read_payment c.args.read.request) c.args.session c.in_ok-revision-in-Ok.revision sound c.in-Ok.ensures pays }
 
 pub returns-clause-gives : goal.returns-clause-gives
 returns-clause-gives g c =

@@ -18,7 +18,7 @@ returns-in-Err-Code-clause-gives g c =
     let h = c.args.self.now in
     refuses_so h call (open_now h c.args.session) (roots_fault h c.args.request)
     (λ k a. IsRevised g.C.SigCheck.verdict (g.G.Signer.Makes (g.G.Signer.public_key c.args.signer.now)) h c.args.room.now call k.id k.renter_key (paid_revision k (roots_payment c.args.request) k.newest.size k.newest.root) c.args.request.signature [] (roots_said k c.args.request) no_work a)
-    c.in-Err-Code.code c.refuse.result c.refuse.new.self (rw c.in-Err-Code.field-0-is at c.in-Err-Code.ensures) (rw (← c.held-held.ensures) (rw c.in-Err-Code.field-0-is at c.refuse.ensures.gives))
+    c.in-Err-Code.code c.refuse.result c.refuse.new.self (rw c.in-Err-Code.field-0-is at c.in-Err-Code.ensures) (rw (← c.held-held.ensures) c.refuse.ensures.gives)
 
 pub tell_roots-requires : goal.tell_roots-requires
 tell_roots-requires g c =
@@ -28,8 +28,8 @@ tell_roots-requires g c =
 pub roots_paid-requires : goal.roots_paid-requires
 roots_paid-requires g c =
     let h = c.args.self.now in
-    let sound : IsSound h.settings.sector h.state.contracts = subst (λ (x : Host). IsSound x.settings.sector x.state.contracts) c.self.view_is c.self.invariant.0 in
-    same_stores h (roots_fault h c.args.request) c.in-Ok.contract.now (roots_payment c.args.request) c.args.session c.in_ok-revision-in-Ok.revision sound c.in-Ok.ensures c.in_ok-revision-in-Ok.ensures
+    let sound : IsSound h.settings.sector h.state.contracts = c.tell_sound.ensures in
+    record { stores = same_stores h (roots_fault h c.args.request) c.in-Ok.contract.now (roots_payment c.args.request) c.args.session c.in_ok-revision-in-Ok.revision sound c.in-Ok.ensures c.in_ok-revision-in-Ok.ensures }
 
 pub returns-clause-gives : goal.returns-clause-gives
 returns-clause-gives g c =
