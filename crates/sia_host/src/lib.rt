@@ -18,8 +18,9 @@
 //!   holds the contract; a leave frees what its session held, and always has memory. For a formation the host adds coins of its own
 //!   that no other contract's formation spends, and its signatures are ones that the signer may make of the whole transaction.
 //!   Roots of sectors are told with their range proof over all of them, for a revision that pays and has the renter's signature: the
-//!   host signs it, and it is the contract's newest one with both signatures. The newest revision of each contract has the size of its
-//!   sectors and the root over their roots. After want of memory all is as before.
+//!   host signs it, and it is the contract's newest one with both signatures. A renewal that both sign clears the contract that the
+//!   session holds, and its sectors pass to the contract that begins; the session keeps holding the old one. The newest revision of
+//!   each contract has the size of its sectors and the root over their roots. After want of memory all is as before.
 //! - For the next stale contract its newest revision is handed out by [`Core::step`], or the renewal that this stands in; for the next due
 //!   one a job that lacks the bytes of a sector. Each due contract has one ([`laws::due_jobs_are_made`]).
 //! - [`Core::replay`] answers true exactly where a payload of the journal is a record, spelled whole and without a rest, that follows on
@@ -30,10 +31,10 @@
 //! # Stands on
 //!
 //! sia_commands for commands, replies and events, sia_kept for contracts, sectors and sessions, sia_ledger for the chain, sia_records and
-//! sia_journal for records and their frames, sia_rhp for requests and answers, sia_forms for formations and the parties' conditions,
-//! sia_ids, sia_blake and sia_edge for identifiers and signatures, sia_roottree, sia_diff and sia_range for the roots of a contract's
-//! sectors and proofs over them, sia_prover and sia_merkle for storage proofs, sia_price for what is paid, sia_types, sia_rules and
-//! sia_encoding for what all of these say.
+//! sia_journal for records and their frames, sia_rhp for requests and answers, sia_forms for formations, renewals and the parties'
+//! conditions, sia_ids, sia_blake and sia_edge for identifiers and signatures, sia_roottree, sia_diff and sia_range for the roots of a
+//! contract's sectors and proofs over them, sia_prover and sia_merkle for storage proofs, sia_price for what is paid, sia_types,
+//! sia_rules and sia_encoding for what all of these say.
 #![tactic(auto)]
 
 mod config;
