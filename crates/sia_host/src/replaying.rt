@@ -18,7 +18,7 @@ use std::alloc::{AllocError, Global};
 impl Core {
     /// Whether a payload of the journal is a record, spelled whole and without a rest, that follows on what the host knows: some command
     /// would make it, whatever the settings and the room of that day. Then the host knows it too, and its events stay; no step is to be
-    /// taken back any more. Else all is as before. The check judges signatures.
+    /// taken back any more. Else all is as before. The check judges signatures. Once a step was taken back it isn't to be asked.
     ///
     /// Its error is want of memory: then all is as before.
     pub fn replay<C: SigCheck>(
