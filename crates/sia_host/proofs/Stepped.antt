@@ -28,13 +28,13 @@ pub stepped_one : (Fits : Reaction → Type 0) (h mid : Host) (step : Step) (pas
     → IsStep Fits h step (record mid { phase = p })
 stepped_one Fits h mid step past b p gives before longer is =
     let a = gives.0 in
-    let reaction = gives.1.1 in
+    let reaction = gives.2 in
     let same : mid ≡ after_answer h a = reaction.host in
     let longer_so : b ≡ nat_lt (length h.events) (length (h.events ++ option_to_list a.event)) = longer ∙ ap (λ (m : Host). nat_lt (length h.events) (length m.events)) same in
     let is_so : p ≡ (if b then phase_after h.phase (past_of h) else h.phase) =
     is ∙ ap (λ (m : Host). if b then phase_after m.phase past else m.phase) same ∙ ap (λ q. if b then phase_after h.phase q else h.phase) before in
     let own : IsReaction h a step (after_answer h a) = subst (λ m. IsReaction h a step m) same reaction in
-    (a, gives.1.0, subst (λ (m : Host). IsReaction h a step (record m { phase = h.phase })) (sym same) own, phase_by h a.event p b longer_so is_so)
+    (a, gives.1, subst (λ (m : Host). IsReaction h a step (record m { phase = h.phase })) (sym same) own, phase_by h a.event p b longer_so is_so)
 
 -- a phase that follows is spoiled where the one before it is
 pub spoiled_after : (p : Phase) (past : Past) (b : Bool) → is_spoiled (if b then phase_after p past else p) ≡ is_spoiled p

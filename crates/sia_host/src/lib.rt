@@ -17,8 +17,9 @@
 //!   of its events and of the journal's room, and the host is then what these make of it. A lock is acquired only where no session
 //!   holds the contract; a leave frees what its session held, and always has memory. For a formation the host adds coins of its own
 //!   that no other contract's formation spends, and its signatures are ones that the signer may make of the whole transaction.
-//!   Roots of sectors are told with their range proof over all of them, for a revision that pays and has the renter's signature: the
-//!   host signs it, and it is the contract's newest one with both signatures. A renewal that both sign clears the contract that the
+//!   Roots of sectors, and parts of sectors, are told with their range proofs for a revision that pays and has the renter's signature: the
+//!   host signs it, and it is the contract's newest one with both signatures. A write changes the contract's sectors by such a revision,
+//!   each new sector in the next of the least free slots; what it drops is named. A renewal that both sign clears the contract that the
 //!   session holds, and its sectors pass to the contract that begins; the session keeps holding the old one. The newest revision of
 //!   each contract has the size of its sectors and the root over their roots. After want of memory all is as before.
 //! - For the next stale contract its newest revision is handed out by [`Core::step`], or the renewal that this stands in; for the next due
@@ -26,7 +27,10 @@
 //! - [`Core::replay`] answers true exactly where a payload of the journal is a record, spelled whole and without a rest, that follows on
 //!   what the host knows: some command would make it, whatever the settings and the room of its day. Then the host knows it; else all is
 //!   as before. What a command makes a record of replays, but for renewals of which this isn't shown ([`laws::records_replay`]).
-//! - [`Core::events`], [`Core::sums`], [`Core::tip`] and [`Core::records`] are those of the present host.
+//! - [`Core::spoil`] takes a step back that met a disk's fault, without memory: the event of the fault stands in the place of the step's own.
+//! - [`Core::rows`] has a row for each contract, by ascending identifiers.
+//! - [`Core::events`], [`Core::sums`], [`Core::tip`] and [`Core::records`] are those of the present host; once a step was taken back, the
+//!   last three are those before that step.
 //!
 //! # Stands on
 //!
