@@ -1,5 +1,6 @@
 -- What calls of a desk add, one behind the other, and how a script follows them.
 use Rattle.std.proofs.Common.{◌≡◌, ◌⊎◌, inl, inr, ◌+◌, ◌≤◌, ℕ, List, [], ◌∷◌, ◌++◌, Option, None, Some, Result, Ok, Err, refl, sym, ap, subst, ◌∙◌, append_assoc, arith}
+use Rattle.std.specs.Prelude.{IfErr}
 use Rattle.std.proofs.lemmas.List.{append-nil}
 use Rattle.sia_edge.specs.Edge.{Rose}
 use Rattle.sia_commands.specs.declared.command.Command.{Command}
@@ -76,6 +77,10 @@ module _ {A : Type 0} (n : ℕ) (c : Command) (next : Reply → Script A) where
   pub asked_done : (old new : Option (List Act)) (r : Reply) (x : A) → (c ≡ command.Leave → ⊥) → Acted old new n c (Ok r) → next r ≡ Ends [] x → Grows old new (Follows (Asks [] n c next) (Ok x))
   asked_done old new r x other acted is = asked old new new r (Ok x) other acted (none_more new new (Follows (next r) (Ok x)) refl (tt, is))
 
+-- a command, and what is made of its reply
+pub asked_said : {A : Type 0} (n : ℕ) (c : Command) (next : Reply → Script A) (old new : Option (List Act)) (r : Reply) (result : Result A Stop) → (c ≡ command.Leave → ⊥) → Acted old new n c (Ok r) → Follows (next r) result [] → Grows old new (Follows (Asks [] n c next) result)
+asked_said n c next old new r result other acted follows = asked n c next old new new r result other acted (none_more new new (Follows (next r) result) refl follows)
+
 -- where these acts have led
 abbrev pub Leads : {A : Type 0} → Script A → Script A → List Act → Type 0
 Leads s t acts = Runs s acts × (after s acts ≡ t)
@@ -137,3 +142,13 @@ alone_none staying counts size desk itself = record { stays = itself desk; secto
 pub caused_later : {D : Type 0} (counts : D → Stop → ℕ) (old mid new : D) (why : Stop) → counts old why ≤ counts mid why → IsCaused counts mid new why → IsCaused counts old new why
 caused_later counts old mid new why later (inl memory) = inl memory
 caused_later counts old mid new why later (inr rose) = inr (omega (arith, later, rose))
+
+-- want of memory is a cause
+pub memory_caused : {A D : Type 0} (counts : D → Stop → ℕ) (old new : D) (result : Result A Stop) → IfErr result (λ why. why ≡ stop.Memory) → IfErr result (IsCaused counts old new)
+memory_caused counts old new (Ok x) memory = tt
+memory_caused counts old new (Err why) memory = inl memory
+
+-- a stop of the second of two calls
+pub caused_second : {A D : Type 0} (counts : D → Stop → ℕ) (old mid new : D) (result : Result A Stop) → ((why : Stop) → counts old why ≤ counts mid why) → IfErr result (IsCaused counts mid new) → IfErr result (IsCaused counts old new)
+caused_second counts old mid new (Ok x) later caused = tt
+caused_second counts old mid new (Err why) later caused = caused_later counts old mid new why (later why) caused

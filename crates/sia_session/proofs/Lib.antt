@@ -3,5 +3,7 @@ pub mod Following
 pub mod SectorsGot
 pub mod Streams
 pub mod Talking
+pub mod Answering
 pub mod Quiet
 pub mod Serving
+pub mod Exchanging

@@ -20,8 +20,8 @@ use Rattle.sia_session.specs.declared.fetching.Fetched.TheVariants as fetched
 use Rattle.sia_session.specs.declared.serve.Ended.{Ended}
 use Rattle.sia_session.specs.declared.serve.Ended.TheVariants as ended
 use Rattle.sia_session.specs.declared.state.Done.{Done}
-use Rattle.sia_session.specs.declared.state.Proposal.{Proposal}
-use Rattle.sia_session.specs.declared.state.Proposal.TheVariants as proposal
+use Rattle.sia_session.specs.declared.state.Kept.{Kept}
+use Rattle.sia_session.specs.declared.state.Kept.TheVariants as proposal
 use Rattle.sia_session.specs.declared.state.State.{State}
 use Rattle.sia_session.specs.declared.state.State.TheVariants as state
 use Rattle.sia_session.specs.declared.state.Taken.{Taken}
@@ -88,7 +88,7 @@ quiet_asked now session sector (requests.RenewSign signatures) = tt
 quiet_asked now session sector requests.LoopExit = tt
 quiet_asked now session sector _ = (tt, λ r. tt)
 
-quiet_signed : (made : Proposal) (session : ℕ) (asked : Request) → IsQuiet (signed_of made session asked)
+quiet_signed : (made : Kept) (session : ℕ) (asked : Request) → IsQuiet (signed_of made session asked)
 quiet_signed (proposal.Form form) session (requests.FormSign signatures) = (tt, λ r. tt)
 quiet_signed (proposal.Write write) session (requests.WriteSign signature) = (tt, λ r. tt)
 quiet_signed (proposal.Renew tx) session (requests.RenewSign signatures) = (tt, λ r. tt)

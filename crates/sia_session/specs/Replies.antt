@@ -1,14 +1,17 @@
 -- What a session makes of a reply: what it sends, and the state that it is in then (RHP2; siad's modules/host).
-use Rattle.std.specs.Prelude.{ℕ, Bool, true, false, List, [], if◌then◌else◌}
+use Rattle.std.specs.Prelude.{ℕ, Bool, true, false, List, [], Option, Some, None, if◌then◌else◌}
+use Rattle.sia_types.specs.declared.transaction.Transaction.{Transaction}
 use Rattle.sia_rhp.specs.declared.answer.Answer.{Answer}
 use Rattle.sia_rhp.specs.declared.answer.Answer.TheVariants as answers
+use Rattle.sia_rhp.specs.declared.request_bodies.FormRequest.{FormRequest}
 use Rattle.sia_rhp.specs.Answers.{spelled_answer}
+use Rattle.sia_records.specs.Writes.{Prepared}
 use Rattle.sia_commands.specs.declared.reply.Reply.{Reply}
 use Rattle.sia_commands.specs.declared.reply.Reply.TheVariants as reply
 use Rattle.sia_session.specs.declared.state.Change.{Change}
 use Rattle.sia_session.specs.declared.state.Change.TheVariants as change
-use Rattle.sia_session.specs.declared.state.Proposal.{Proposal}
-use Rattle.sia_session.specs.declared.state.Proposal.TheVariants as proposal
+use Rattle.sia_session.specs.declared.state.Kept.{Kept}
+use Rattle.sia_session.specs.declared.state.Kept.TheVariants as proposal
 use Rattle.sia_session.specs.declared.state.State.{State}
 use Rattle.sia_session.specs.declared.state.State.TheVariants as state
 
@@ -33,8 +36,23 @@ abbrev pub is_acquired : Reply → Bool
 is_acquired (reply.Said answer) = is_lock answer
 is_acquired _ = false
 
+-- the formation that was proposed, if it is one
+abbrev pub form_in : Kept → Option FormRequest
+form_in (proposal.Form request) = Some request
+form_in _ = None
+
+-- the change of sectors, if it is one
+abbrev pub write_in : Kept → Option Prepared
+write_in (proposal.Write write) = Some write
+write_in _ = None
+
+-- the renewal, if it is one
+abbrev pub renewal_in : Kept → Option Transaction
+renewal_in (proposal.Renew tx) = Some tx
+renewal_in _ = None
+
 -- the state in which a proposal is made: a formation is proposed while the session holds no contract, and all else while it holds one
-abbrev pub state_before : Proposal → State
+abbrev pub state_before : Kept → State
 state_before (proposal.Form request) = state.Idle
 state_before (proposal.Write write) = state.Locked
 state_before (proposal.Renew tx) = state.Locked
@@ -53,7 +71,7 @@ abbrev pub after_unlock : State → Reply → State
 after_unlock before said = if is_said said then state.Idle else before
 
 -- after a reply to a proposal
-abbrev pub after_proposal : Proposal → State → Reply → State
+abbrev pub after_proposal : Kept → State → Reply → State
 after_proposal made before said = if is_said said then state.Proposed made else before
 
 -- the state after a reply, by how it may change

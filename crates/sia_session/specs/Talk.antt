@@ -1,5 +1,5 @@
 -- What a session asks for one body, and what it sends, given the replies (RHP2; siad's modules/host).
-use Rattle.std.specs.Prelude.{◌≡◌, ℕ, ◌+◌, ◌-◌, ◌*◌, ◌^◌, nat_lt, Bool, true, false, if◌then◌else◌, List, [], ◌∷◌, ◌++◌, map, length, Option, Some, None, Result, Ok, Err}
+use Rattle.std.specs.Prelude.{◌≡◌, ℕ, ◌+◌, ◌-◌, ◌*◌, ◌^◌, nat_lt, Bool, true, false, if◌then◌else◌, List, [], ◌∷◌, ◌++◌, map, length, Option, Some, None, option_map, Result, Ok, Err}
 use Rattle.std.specs.List.{filter_map}
 use Rattle.sia_encoding.specs.declared.limits.TheConstants.{ACTIONS}
 use Rattle.sia_types.specs.declared.transaction.Transaction.{Transaction}
@@ -28,12 +28,12 @@ use Rattle.sia_commands.specs.declared.want.Want.TheVariants as want
 use Rattle.sia_session.specs.declared.fetching.Fetched.{Fetched}
 use Rattle.sia_session.specs.declared.fetching.Fetched.TheVariants as fetched
 use Rattle.sia_session.specs.declared.state.Done.{Done}
-use Rattle.sia_session.specs.declared.state.Proposal.{Proposal}
-use Rattle.sia_session.specs.declared.state.Proposal.TheVariants as proposal
+use Rattle.sia_session.specs.declared.state.Kept.{Kept}
+use Rattle.sia_session.specs.declared.state.Kept.TheVariants as proposal
 use Rattle.sia_session.specs.declared.state.State.{State}
 use Rattle.sia_session.specs.declared.state.State.TheVariants as state
 use Rattle.sia_session.specs.declared.state.Taken.TheVariants as taken
-use Rattle.sia_session.specs.Replies.{spelled_reply, state_before, dropped, after_lock, after_unlock, after_proposal}
+use Rattle.sia_session.specs.Replies.{spelled_reply, form_in, write_in, renewal_in, state_before, dropped, after_lock, after_unlock, after_proposal}
 use Rattle.sia_session.specs.Script.{Script, Ends, Asks, and_then}
 
 -- the greatest length of a body, and of what it holds
@@ -136,22 +136,22 @@ asked_of now session sector (requests.Renew tx) = asks session (command.Renew tx
 asked_of now session sector (requests.RenewSign signatures) = says 4 now
 asked_of now session sector requests.LoopExit = exits now
 
--- the command that a request's signatures make of a proposal, if they are for it
-abbrev pub sign_of : Proposal → Request → Option Command
-sign_of (proposal.Form form) (requests.FormSign signatures) = Some (command.FormSign form signatures)
-sign_of (proposal.Write write) (requests.WriteSign signature) = Some (command.WriteSign write signature)
-sign_of (proposal.Renew tx) (requests.RenewSign signatures) = Some (command.RenewSign tx signatures)
-sign_of _ _ = None
+-- a request that has no signatures: the proposal is dropped
+abbrev pub unsigned : State → Request → Script Done
+unsigned before requests.LoopExit = exits before
+unsigned before _ = says 4 before
 
--- that command, or where there is none a code; the proposal is used up or dropped
-abbrev pub signs : Proposal → ℕ → Option Command → Script Done
-signs made session (Some asked) = asks_in (state_before made) session asked
-signs made session None = says 4 (state_before made)
+-- signatures: they use the proposal up where they are for it, and else it is dropped
+abbrev pub signs : State → ℕ → Option Command → Script Done
+signs before session (Some asked) = asks_in before session asked
+signs before session None = says 4 before
 
 -- a request while a proposal waits
-abbrev pub signed_of : Proposal → ℕ → Request → Script Done
-signed_of made session requests.LoopExit = exits (state_before made)
-signed_of made session asked = signs made session (sign_of made asked)
+abbrev pub signed_of : Kept → ℕ → Request → Script Done
+signed_of made session (requests.FormSign signatures) = signs (state_before made) session (option_map (λ form. command.FormSign form signatures) (form_in made))
+signed_of made session (requests.WriteSign signature) = signs (state_before made) session (option_map (λ write. command.WriteSign write signature) (write_in made))
+signed_of made session (requests.RenewSign signatures) = signs (state_before made) session (option_map (λ tx. command.RenewSign tx signatures) (renewal_in made))
+signed_of made session asked = unsigned (state_before made) asked
 
 -- a request
 abbrev pub answered : State → ℕ → ℕ → Request → Script Done

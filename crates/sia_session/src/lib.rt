@@ -29,11 +29,12 @@
 //!
 //! sia_commands for commands, replies and stops, sia_records for writes and reads that are prepared, sia_rhp for frames, requests and
 //! answers, sia_edge for links, sia_types and sia_encoding for what these hold.
-#![tactic(none)]
+#![tactic(auto)]
 
 mod asking;
 mod desk;
 mod fetching;
+mod heard;
 mod serve;
 mod session;
 mod state;

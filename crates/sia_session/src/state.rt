@@ -1,31 +1,103 @@
 //! What a session knows: whether it holds a contract, and what it proposed.
 ghost use Rattle.std.specs.Prelude.{◌≡◌};
-ghost use Rattle.sia_session.specs.Replies.{dropped, is_acquired as acquired_by, is_lock as lock_in, is_said as said_by, state_before, state_by};
+ghost use Rattle.sia_session.specs.Replies.{dropped, form_in, renewal_in, state_before, state_by, write_in};
 
-use sia_commands::Reply;
+use crate::heard::Heard;
 use sia_records::PreparedWrite;
-use sia_rhp::{Answer, FormRequest};
+use sia_rhp::FormRequest;
 use sia_types::{Blob, Transaction};
+use std::marker::Model;
 
-/// What was proposed and waits for its signatures.
+// What may be proposed.
 #[derive(Drop)]
-pub enum Proposal {
-    /// A formation.
+pub(crate) enum Kept {
     Form(FormRequest),
-    /// A change of the contract's sectors.
     Write(PreparedWrite),
-    /// A renewal.
     Renew(Transaction),
 }
 
+/// What was proposed and waits for its signatures: a formation, a change of the contract's sectors, or a renewal.
+#[derive(Drop)]
+pub struct Proposal {
+    kept: Kept,
+}
+
+impl Model for Proposal {
+    ghost use Rattle.sia_session.specs.declared.state.Kept.{Kept as Waits};
+
+    ghost Value = { Waits };
+
+    ghost view = { λ p. p.kept };
+}
+
 impl Proposal {
+    // A formation.
+    pub(crate) fn form(request: FormRequest) -> Proposal
+        ensures { result ≡ Kept.Form request }
+    {
+        Proposal {
+            kept: Kept::Form(request),
+        }
+    }
+
+    // A change of sectors.
+    pub(crate) fn write(write: PreparedWrite) -> Proposal
+        ensures { result ≡ Kept.Write write }
+    {
+        Proposal {
+            kept: Kept::Write(write),
+        }
+    }
+
+    // A renewal.
+    pub(crate) fn renewal(tx: Transaction) -> Proposal
+        ensures { result ≡ Kept.Renew tx }
+    {
+        Proposal {
+            kept: Kept::Renew(tx),
+        }
+    }
+
+    // The formation, if it is one.
+    pub(crate) fn into_form(self) -> Option<FormRequest>
+        ensures { result ≡ form_in self }
+    {
+        match self.kept {
+            Kept::Form(request) => Some(request),
+            Kept::Write(_) => None,
+            Kept::Renew(_) => None,
+        }
+    }
+
+    // The change of sectors, if it is one.
+    pub(crate) fn into_write(self) -> Option<PreparedWrite>
+        ensures { result ≡ write_in self }
+    {
+        match self.kept {
+            Kept::Form(_) => None,
+            Kept::Write(write) => Some(write),
+            Kept::Renew(_) => None,
+        }
+    }
+
+    // The renewal, if it is one.
+    pub(crate) fn into_renewal(self) -> Option<Transaction>
+        ensures { result ≡ renewal_in self }
+    {
+        match self.kept {
+            Kept::Form(_) => None,
+            Kept::Write(_) => None,
+            Kept::Renew(tx) => Some(tx),
+        }
+    }
+
     // The state in which such a proposal is made.
     pub(crate) fn state_before(&self) -> State
         ensures { result ≡ state_before self.now }
     {
-        match self {
-            Proposal::Form(_) => State::Idle,
-            Proposal::Write(_) | Proposal::Renew(_) => State::Locked,
+        match &self.kept {
+            Kept::Form(_) => State::Idle,
+            Kept::Write(_) | Kept::Renew(_) => State::Locked,
         }
     }
 }
@@ -69,63 +141,33 @@ pub(crate) enum Change {
 
 impl Change {
     // The state after a reply.
-    pub(crate) fn state(self, reply: &Reply) -> State
+    pub(crate) fn state(self, reply: &Heard) -> State
         ensures { result ≡ state_by self reply.now }
     {
         match self {
             Change::Stays(state) => state,
             Change::Locks(state) => {
-                if is_acquired(reply) {
+                if reply.is_acquired() {
                     State::Locked
                 } else {
                     state
                 }
             }
             Change::Unlocks(state) => {
-                if is_said(reply) {
+                if reply.is_said() {
                     State::Idle
                 } else {
                     state
                 }
             }
             Change::Proposes(proposal, state) => {
-                if is_said(reply) {
+                if reply.is_said() {
                     State::Proposed(proposal)
                 } else {
                     state
                 }
             }
         }
-    }
-}
-
-// Whether a reply is no refusal.
-fn is_said(reply: &Reply) -> bool
-    ensures { result ≡ said_by reply.now }
-{
-    match reply {
-        Reply::Said(_) => true,
-        _ => false,
-    }
-}
-
-// Whether an answer tells of a lock that was acquired.
-fn is_lock(answer: &Answer) -> bool
-    ensures { result ≡ lock_in answer.now }
-{
-    match answer {
-        Answer::Lock(lock) => lock.acquired,
-        _ => false,
-    }
-}
-
-// Whether a reply does.
-fn is_acquired(reply: &Reply) -> bool
-    ensures { result ≡ acquired_by reply.now }
-{
-    match reply {
-        Reply::Said(answer) => is_lock(answer),
-        _ => false,
     }
 }
 
