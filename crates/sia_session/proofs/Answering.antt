@@ -1,23 +1,18 @@
 -- What a session does for a body, where it gives no command.
-use Rattle.std.proofs.Common.{◌≡◌, ◌⊎◌, inl, inr, ℕ, List, [], Option, None, Some, Result, Ok, Err, refl, sym, ap, subst, ◌∙◌}
+use Rattle.std.proofs.Common.{◌≡◌, ℕ, List, [], Option, Result, Ok, Err, refl, sym, ap, subst, ◌∙◌}
 use Rattle.std.specs.Prelude.{IsErr}
 use Rattle.sia_encoding.specs.Answer.{Answers}
 use Rattle.sia_types.specs.declared.signature.Signature.{Signature}
-use Rattle.sia_types.specs.declared.transaction.Transaction.{Transaction}
 use Rattle.sia_rhp.specs.declared.message_fault.MessageFault.{MessageFault}
 use Rattle.sia_rhp.specs.declared.message_fault.MessageFault.TheVariants as wrong
 use Rattle.sia_rhp.specs.declared.request.Request.{Request}
 use Rattle.sia_rhp.specs.declared.request.Request.TheVariants as requests
-use Rattle.sia_rhp.specs.declared.request_bodies.FormRequest.{FormRequest}
 use Rattle.sia_rhp.specs.Messages.{message_in, message_told}
 use Rattle.sia_rhp.specs.Requests.{request}
-use Rattle.sia_records.specs.Writes.{Prepared}
 use Rattle.sia_commands.specs.declared.stop.Stop.{Stop}
 use Rattle.sia_session.specs.declared.state.Done.{Done}
 use Rattle.sia_session.specs.declared.state.Kept.{Kept}
-use Rattle.sia_session.specs.declared.state.Kept.TheVariants as proposal
 use Rattle.sia_session.specs.declared.state.State.{State}
-use Rattle.sia_session.specs.declared.state.State.TheVariants as state
 use Rattle.sia_session.specs.Acts.{Act}
 use Rattle.sia_session.specs.Replies.{state_before}
 use Rattle.sia_session.specs.Script.{Script, Follows}
@@ -49,7 +44,7 @@ told_wrong : (now : State) (session sector : ℕ) (why : MessageFault) (reading 
 told_wrong now session sector why reading result is follows = let P : Result Request MessageFault → Type 0 = λ r. Follows (taken_of now session sector r) result [] in subst P (sym is) follows
 
 no_memory : (script : Script Done) (result : Result Done Stop) → IsErr result → Follows script result []
-no_memory script (Ok done) err = absurd err
+no_memory script (Ok done) err = (cc)
 no_memory script (Err why) err = tt
 
 wrong_body : (now : State) (session sector : ℕ) (why : MessageFault) (reading : Result Request MessageFault) (result : Result Done Stop) → Answers (λ (read : Request). read) message_told (Err why) reading → Follows (refused now why) result [] → (why ≡ wrong.Memory → IsErr result) → Follows (taken_of now session sector reading) result []

@@ -1,5 +1,5 @@
 -- One body, and what it leads to.
-use Rattle.std.proofs.Common.{◌≡◌, List, ℕ, [], Option, None, Some, Ok, Err, refl}
+use Rattle.std.proofs.Common.{◌≡◌, List, ℕ, Option, None, Some, Ok, Err, refl}
 use Rattle.sia_commands.specs.declared.stop.Stop.{Stop}
 use Rattle.sia_session.specs.declared.serve.Ended.{Ended}
 use Rattle.sia_session.specs.declared.serve.Ended.TheVariants as ended

@@ -1,8 +1,7 @@
 -- What calls of a desk add, one behind the other, and how a script follows them.
-use Rattle.std.proofs.Common.{◌≡◌, ◌⊎◌, inl, inr, ◌+◌, ◌≤◌, ℕ, List, [], ◌∷◌, ◌++◌, Option, None, Some, Result, Ok, Err, refl, sym, ap, subst, ◌∙◌, append_assoc, arith}
+use Rattle.std.proofs.Common.{◌≡◌, inl, inr, ◌≤◌, ℕ, List, [], ◌∷◌, ◌++◌, Option, None, Some, Result, Ok, Err, refl, sym, ap, subst, ◌∙◌, append_assoc, arith}
 use Rattle.std.specs.Prelude.{IfErr}
 use Rattle.std.proofs.lemmas.List.{append-nil}
-use Rattle.sia_edge.specs.Edge.{Rose}
 use Rattle.sia_commands.specs.declared.command.Command.{Command}
 use Rattle.sia_commands.specs.declared.command.Command.TheVariants as command
 use Rattle.sia_commands.specs.declared.reply.Reply.{Reply}

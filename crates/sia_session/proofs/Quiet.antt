@@ -1,5 +1,5 @@
 -- A session neither enters nor leaves while it talks, so it stays live.
-use Rattle.std.proofs.Common.{◌≡◌, ◌==◌, ◌^◌, ℕ, Bool, true, false, nat_lt, ◌-◌, if◌then◌else◌, List, [], ◌∷◌, ◌++◌, length, Option, None, Some, Result, Ok, Err, refl, sym, ap, subst, ◌∙◌, append_assoc}
+use Rattle.std.proofs.Common.{◌≡◌, ◌^◌, ℕ, Bool, true, false, nat_lt, ◌-◌, if◌then◌else◌, List, [], ◌∷◌, ◌++◌, length, Option, None, Some, Result, Ok, Err, refl, ap, ◌∙◌}
 use Rattle.std.proofs.lemmas.Bool.{eq-eqb}
 use Rattle.sia_encoding.specs.declared.limits.TheConstants.{ACTIONS}
 use Rattle.sia_rhp.specs.declared.message_fault.MessageFault.{MessageFault}
@@ -27,7 +27,7 @@ use Rattle.sia_session.specs.declared.state.State.TheVariants as state
 use Rattle.sia_session.specs.declared.state.Taken.{Taken}
 use Rattle.sia_session.specs.declared.state.Taken.TheVariants as taken
 use Rattle.sia_session.specs.Acts.{Act, act, live_by, live_after}
-use Rattle.sia_session.specs.Script.{Script, Ends, Asks, say, and_then, after, sent_of, Runs, Cuts, WithReply}
+use Rattle.sia_session.specs.Script.{Script, Ends, Asks, say, and_then, Cuts, WithReply}
 use Rattle.sia_session.specs.Served.{Conversed, goes_on, sends_or_ends, talk}
 use Rattle.sia_session.specs.Talk.{answered, asked_of, asks_in, fetch, limit_of, read_with, reads, refused, request_in, sectors_changed, sectors_read, signed_of, taken_of, with_fetched, with_sector, write_with, writes}
 use Rattle.sia_session.proofs.Scripts.{runs_cuts}

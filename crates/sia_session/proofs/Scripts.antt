@@ -1,8 +1,8 @@
 -- Scripts, and runs of them one behind the other.
-use Rattle.std.proofs.Common.{◌≡◌, ℕ, List, [], ◌∷◌, ◌++◌, Option, None, Some, refl, sym, ap, subst, ◌∙◌, append_assoc}
+use Rattle.std.proofs.Common.{◌≡◌, ℕ, List, [], ◌∷◌, ◌++◌, Option, None, Some, refl, sym, ap, ◌∙◌, append_assoc}
 use Rattle.sia_commands.specs.declared.command.Command.{Command}
 use Rattle.sia_commands.specs.declared.reply.Reply.{Reply}
-use Rattle.sia_session.specs.Acts.{Act, looked_at}
+use Rattle.sia_session.specs.Acts.{Act}
 use Rattle.sia_session.specs.Script.{Script, Ends, Asks, say, and_then, after, sent_of, Runs, Cuts, with_reply, WithReply}
 
 pub say_say : {A : Type 0} (xs ys : List ℕ) (s : Script A) → say (xs ++ ys) s ≡ say xs (say ys s)

@@ -1,5 +1,5 @@
 -- Sectors that are asked for one by one.
-use Rattle.std.proofs.Common.{◌≡◌, ℕ, ◌+◌, ◌<◌, ◌≤◌, List, [], ◌∷◌, ◌++◌, length, get_or, drop, Option, Result, Ok, Err, refl, sym, subst, add-one}
+use Rattle.std.proofs.Common.{◌≡◌, ℕ, ◌+◌, ◌<◌, ◌≤◌, List, [], ◌∷◌, ◌++◌, length, get_or, drop, Option, Ok, Err, refl, subst, add-one}
 use Rattle.std.proofs.Math.Seq.{drop-cons}
 use Rattle.std.proofs.lemmas.List.{drop_all}
 use Rattle.sia_commands.specs.declared.command.Command.{Command}
@@ -14,7 +14,7 @@ use Rattle.sia_session.specs.Acts.{Act, Acted}
 use Rattle.sia_session.specs.Script.{Script, Ends, Asks, Follows}
 use Rattle.sia_session.specs.Talk.{fetch, with_sector}
 use Rattle.sia_session.specs.Told.{Grows}
-use Rattle.sia_session.proofs.Following.{Leads, led, leads_more, stopped, asked_cut, asked_done, grows_so}
+use Rattle.sia_session.proofs.Following.{Leads, led, leads_more, stopped, asked_cut, asked_done}
 
 fetch_next : (n i : ℕ) (wants : List Want) (none : Want) (got : List (List ℕ)) → i < length wants
     → fetch n (drop i wants) got ≡ Asks [] n (command.Fetch (get_or wants i none)) (with_sector (λ bytes. fetch n (drop (i + 1) wants) (got ++ bytes ∷ [])))

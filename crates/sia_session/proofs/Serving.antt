@@ -1,6 +1,5 @@
 -- The session of a link, from Enter to Leave.
-use Rattle.std.proofs.Common.{◌≡◌, ◌^◌, ℕ, List, [], ◌∷◌, ◌++◌, Option, None, Some, Result, Ok, Err, false, refl, sym, ap, subst, ◌∙◌, append_assoc}
-use Rattle.std.proofs.lemmas.List.{append-nil}
+use Rattle.std.proofs.Common.{◌≡◌, ◌^◌, ℕ, List, [], ◌∷◌, ◌++◌, Option, None, Some, Ok, Err, true, false, refl, sym, ap, subst, ◌∙◌, append_assoc}
 use Rattle.std.specs.Io.KnownBytes.{Appends}
 use Rattle.sia_edge.specs.Whole.{AppendsSomeOf}
 use Rattle.sia_rhp.specs.Frames.{frame_of, frames_of}
@@ -12,8 +11,8 @@ use Rattle.sia_commands.specs.declared.stop.Stop.TheVariants as stop
 use Rattle.sia_session.specs.declared.serve.Ended.{Ended}
 use Rattle.sia_session.specs.declared.serve.Ended.TheVariants as ended
 use Rattle.sia_session.specs.Acts.{Act, act, told, live_after}
-use Rattle.sia_session.specs.Script.{Script, Ends, Asks, say, after, sent_of, Runs, Cuts}
-use Rattle.sia_session.specs.Served.{Standing, Begins, Conversed, LeftWhere, Leaves, ReadsAll, Served, begun_as, entered, linked, talk_in}
+use Rattle.sia_session.specs.Script.{Script, Asks, say, after, sent_of}
+use Rattle.sia_session.specs.Served.{Standing, Begins, Conversed, LeftWhere, ReadsAll, Served, begun_as, entered, talk_in}
 use Rattle.sia_session.specs.Talk.{limit_of}
 use Rattle.sia_session.specs.Told.{Grows, IsPrefix, Loses}
 use Rattle.sia_session.proofs.Following.{say_nothing, grows_both, grows_so, none_more}
@@ -129,11 +128,15 @@ served sector standing challenge how number left left_new acts0 acts1 acts2 acts
         let run = talk.0 in
         let leave = left_by.0 in
         let there : a2 ≡ a0 ++ (enter ∷ run) = talk.1 ∙ ap (λ xs. xs ++ run) (begun.1 ∙ ap (λ xs. a0 ++ xs) begun.2.0) ∙ append_assoc a0 (enter ∷ []) run in
-        let W : ℕ → Type 0 = λ n. LeftWhere n (Some a2) leave in
-        (enter ∷ (run ++ leave), left_by.1 ∙ ap (λ xs. xs ++ leave) there ∙ append_assoc a0 (enter ∷ run) leave,
-          grows_so taken_then taken_now _ _ (λ sent conversed.
-            (served_so sector standing challenge how read a0 run leave begun.2.1 sent conversed.0
-              (subst W same left_by.2 (ap (live_after standing.number false) there ∙ live sector standing challenge how read a0 run leave begun.2.1 sent conversed.0)), conversed.1)) talk.2)
+        let W : ℕ → Type 0 = λ n. LeftWhere n (Some a2) leave in (
+          enter ∷ (run ++ leave),
+          left_by.1 ∙ ap (λ xs. xs ++ leave) there ∙ append_assoc a0 (enter ∷ run) leave,
+          grows_so taken_then taken_now _ _ (λ sent conversed. (
+            served_so sector standing challenge how read a0 run leave begun.2.1 sent conversed.0
+                (subst W same left_by.2 (ap (live_after standing.number false) there ∙ live sector standing challenge how read a0 run leave begun.2.1 sent conversed.0)),
+            conversed.1,
+          )) talk.2,
+        )
 
 not_served : (sector : ℕ) (why : Stop) (acts : List Act) → acts ≡ told 0 command.Enter (Err why) → Served sector [] (ended.Stop why) acts []
 not_served sector stop.Disk acts is = record { run = told 0 command.Enter (Err stop.Disk); leave = []; acted = is; conversed = ((refl, refl, refl), ([], refl)); left = refl }

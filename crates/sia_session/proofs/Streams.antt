@@ -1,6 +1,6 @@
 -- The frames of bytes: what was read of them decides, whatever comes behind.
-use Rattle.std.proofs.Common.{◌⊎◌, inl, inr, ◌≡◌, ◌++◌, ℕ, ◌+◌, ◌-◌, ◌≤◌, ◌<◌, ◌==◌, Bool, true, false, nat_lt, min, if◌then◌else◌, List, [], ◌∷◌, length, take, drop, Option, None, Some, Result, Ok, Err, arith, refl, sym, ap, subst, ◌∙◌, length-append}
-use Rattle.std.proofs.lemmas.Bool.{le-ltb, lt-ltb, ltb-false, ltb-true, eqb-true}
+use Rattle.std.proofs.Common.{inl, inr, ◌≡◌, ◌++◌, ℕ, ◌+◌, ◌-◌, ◌≤◌, ◌==◌, Bool, true, false, nat_lt, min, if◌then◌else◌, List, [], ◌∷◌, length, take, drop, Option, None, Some, Result, Ok, Err, arith, refl, sym, ap, ◌∙◌, length-append}
+use Rattle.std.proofs.lemmas.Bool.{le-ltb, ltb-false, ltb-true, eqb-true}
 use Rattle.std.proofs.lemmas.List.{length-take, length-take-le, length-drop, take_at, drop_at, take-take, drop-take}
 use Rattle.std.specs.Int.{w64, from_le_bytes}
 use Rattle.sia_rhp.specs.declared.frames.FrameFault.{FrameFault}
@@ -23,8 +23,8 @@ behind n count all xs ys parts alike = record {
   first = omega (arith, length-drop n xs, alike.first);
   second = omega (arith, length-drop n ys, alike.second);
   same =
-    let both : take (n + count) xs ≡ take (n + count) ys = ap (λ k. take k xs) parts ∙ alike.same ∙ ap (λ k. take k ys) (sym parts) in
-    sym (drop-take n count xs) ∙ ap (drop n) both ∙ drop-take n count ys;
+      let both : take (n + count) xs ≡ take (n + count) ys = ap (λ k. take k xs) parts ∙ alike.same ∙ ap (λ k. take k ys) (sym parts) in
+      sym (drop-take n count xs) ∙ ap (drop n) both ∙ drop-take n count ys;
 }
 
 -- a list, and its first bytes with others behind them
@@ -41,7 +41,9 @@ alone count xs within =
 length_alike : (room count : ℕ) (xs ys : List ℕ) → min 8 room ≤ count → Alike count xs ys → length_at room xs ≡ length_at room ys
 unfolding length_at
 length_alike room count xs ys enough alike =
-    chosen_second _ _ _ (le-ltb _ _ (omega (arith, enough, alike.first))) ∙ cases (nat_lt room 8) refl ∙ sym (chosen_second _ _ _ (le-ltb _ _ (omega (arith, enough, alike.second))))
+    let one : min 8 room ≤ length xs = omega (arith, enough, alike.first) in
+    let other : min 8 room ≤ length ys = omega (arith, enough, alike.second) in
+    chosen_second _ _ _ (le-ltb _ _ one) ∙ cases (nat_lt room 8) refl ∙ sym (chosen_second _ _ _ (le-ltb _ _ other))
   where
     cases : (b : Bool) → nat_lt room 8 ≡ b → (if b then Err fault.Long else Ok (Some (from_le_bytes w64 (take 8 xs)))) ≡ (if b then Err fault.Long else Ok (Some (from_le_bytes w64 (take 8 ys))))
     cases true is = refl
@@ -52,7 +54,9 @@ length_alike room count xs ys enough alike =
 body_alike : (size room count : ℕ) (xs ys : List ℕ) → min size room ≤ count → Alike count xs ys → body_at size room xs ≡ body_at size room ys
 unfolding body_at
 body_alike size room count xs ys enough alike =
-    chosen_second _ _ _ (le-ltb _ _ (omega (arith, enough, alike.first))) ∙ cases (nat_lt room size) refl ∙ sym (chosen_second _ _ _ (le-ltb _ _ (omega (arith, enough, alike.second))))
+    let one : min size room ≤ length xs = omega (arith, enough, alike.first) in
+    let other : min size room ≤ length ys = omega (arith, enough, alike.second) in
+    chosen_second _ _ _ (le-ltb _ _ one) ∙ cases (nat_lt room size) refl ∙ sym (chosen_second _ _ _ (le-ltb _ _ other))
   where
     cases : (b : Bool) → nat_lt room size ≡ b → (if b then Err fault.Long else Ok (Some (take size xs))) ≡ (if b then Err fault.Long else Ok (Some (take size ys)))
     cases true is = refl
@@ -151,7 +155,7 @@ frame_more limit room bytes body more is = first (length_at room bytes) refl is
           let alike : Alike all bytes front = with_more all bytes more lies in
           let read_again : length_at room front ≡ Ok (Some n) = sym (length_alike room all bytes front (omega arith) alike) ∙ read in
           let body_again : body_at n (room - 8) (drop 8 front) ≡ Ok (Some body) =
-              sym (body_alike n (room - 8) (length body) (drop 8 bytes) (drop 8 front) (omega (arith, two)) (behind 8 (length body) all bytes front refl alike)) ∙ within.1 in
+          sym (body_alike n (room - 8) (length body) (drop 8 bytes) (drop 8 front) (omega (arith, two)) (behind 8 (length body) all bytes front refl alike)) ∙ within.1 in
           record { lies = lies; again = ap (behind_length limit room front) read_again ∙ chosen_second _ _ _ within.0 ∙ body_again }
     ]
 

@@ -1,11 +1,11 @@
 -- How far the session of a link has come, and how it ends.
-use Rattle.std.proofs.Common.{◌≡◌, ◌^◌, ◌+◌, ◌-◌, ◌≤◌, ℕ, List, [], ◌∷◌, ◌++◌, length, take, drop, Option, None, Some, Result, Ok, Err, refl, sym, ap, subst, ◌∙◌, append_assoc}
+use Rattle.std.proofs.Common.{◌≡◌, ◌^◌, ◌+◌, ◌-◌, ℕ, List, [], ◌++◌, length, take, drop, Option, None, Some, Result, Ok, Err, refl, sym, ap, subst, ◌∙◌, append_assoc}
 use Rattle.std.specs.Prelude.{IfSome}
 use Rattle.std.proofs.lemmas.List.{append-nil, take-append-drop}
 use Rattle.sia_rhp.specs.declared.frames.FrameFault.{FrameFault}
 use Rattle.sia_rhp.specs.declared.frames.FrameFault.TheVariants as fault
 use Rattle.sia_rhp.specs.Frames.{frame_of, frames_of, frame_at, FrameStream}
-use Rattle.sia_rhp.specs.Taking.{LosesSome, TakesOff}
+use Rattle.sia_rhp.specs.Taking.{TakesOff}
 use Rattle.sia_commands.specs.declared.stop.Stop.{Stop}
 use Rattle.sia_session.specs.declared.serve.Ended.{Ended}
 use Rattle.sia_session.specs.declared.serve.Ended.TheVariants as ended
@@ -14,13 +14,13 @@ use Rattle.sia_session.specs.declared.state.State.{State}
 use Rattle.sia_session.specs.declared.state.Taken.{Taken}
 use Rattle.sia_session.specs.declared.state.Taken.TheVariants as taken
 use Rattle.sia_session.specs.Acts.{Act}
-use Rattle.sia_session.specs.Script.{Script, Ends, Asks, say, and_then, after, sent_of, Runs, Cuts}
+use Rattle.sia_session.specs.Script.{Script, Ends, say, and_then, after, sent_of, Runs, Cuts}
 use Rattle.sia_session.specs.Served.{Standing, Conversed, Exchanged, ReadsAll, SentBy, Takes, ended_at, goes_on, script_for, talk_in, talk_over}
 use Rattle.sia_session.specs.Talk.{limit_of}
 use Rattle.sia_session.specs.Told.{Grows, IsPrefix, Loses}
 use Rattle.sia_session.proofs.Scripts.{say_say, sent_said, runs_said, cuts_said, after_said, runs_on, cuts_on, after_on, runs_then, cuts_then, after_then, runs_cuts}
 use Rattle.sia_session.proofs.Following.{say_nothing, grows_both, grows_so}
-use Rattle.sia_session.proofs.Streams.{ReadsOn, frame_more, frames_more, frames_fault, frames_none, none_read, too_long_read, long_read}
+use Rattle.sia_session.proofs.Streams.{frames_more, frames_fault, frames_none, none_read, too_long_read, long_read}
 
 -- a script after some acts: what was sent, and what is left
 abbrev pub Here : Script Ended → Script Ended → List Act → List ℕ → Type 0
@@ -51,7 +51,7 @@ conversed_at (ended.TooLong n) script rest done sent can here = finished (ended.
 abbrev pub SoFar : Standing → (List ℕ → Script Ended) → Option (List ℕ) → Option (List ℕ) → Option (List Act) → Option (List Act) → Option (List ℕ) → Option (List ℕ) → Type 0
 SoFar begun rest_for left_then left acts_then acts taken_then taken_now =
     Loses left_then left (λ read rest. Grows acts_then acts (λ done. Grows taken_then taken_now (λ sent.
-      (more : List ℕ) → Here (talk_in begun (2 ^ 40) (read ++ more)) (rest_for more) done sent)))
+    (more : List ℕ) → Here (talk_in begun (2 ^ 40) (read ++ more)) (rest_for more) done sent)))
 
 -- the session ended so
 abbrev pub Talked : Standing → Option (List ℕ) → Option (List ℕ) → Option (List Act) → Option (List Act) → Option (List ℕ) → Option (List ℕ) → Ended → Type 0
@@ -67,6 +67,7 @@ at_first begun (Some bytes) acts taken_now = ([], bytes, refl, refl, first acts)
     second : (taken_now : Option (List ℕ)) → Grows taken_now taken_now (λ sent. (more : List ℕ) → Here (talk_in begun (2 ^ 40) more) (talk_in begun (2 ^ 40) more) [] sent)
     second None = tt
     second (Some sent) = ([], sym (append-nil sent), λ more. (tt, sym (say_nothing (talk_in begun (2 ^ 40) more))))
+
     first : (acts : Option (List Act)) → Grows acts acts (λ done. Grows taken_now taken_now (λ sent. (more : List ℕ) → Here (talk_in begun (2 ^ 40) more) (talk_in begun (2 ^ 40) more) done sent))
     first None = tt
     first (Some done) = ([], sym (append-nil done), second taken_now)
@@ -87,17 +88,26 @@ talk_fault now room bytes e how is ends = ap (talk_over now.number now.sector no
 
 pub closes_fault : (now : Standing) (room : ℕ) (e : FrameFault) (rest : List ℕ) (left : Option (List ℕ)) → TakesOff (λ (body : List ℕ). 8 + length body) room (Err e) (frame_at (limit_of now.sector) room rest) rest left → Closes now room (ended_at e) rest left
 closes_fault now room (fault.TooLong n) rest left off = record {
-  read = take 8 rest; back = drop 8 rest; parts = sym (take-append-drop 8 rest); left_is = off.1;
+  read = take 8 rest;
+  back = drop 8 rest;
+  parts = sym (take-append-drop 8 rest);
+  left_is = off.1;
   can = talk_fault now room (take 8 rest) (fault.TooLong n) (ended.TooLong n) (too_long_read (limit_of now.sector) room n rest off.0) refl;
   all = tt;
 }
 closes_fault now room fault.Short rest left off = record {
-  read = rest; back = []; parts = sym (append-nil rest); left_is = off.1;
+  read = rest;
+  back = [];
+  parts = sym (append-nil rest);
+  left_is = off.1;
   can = talk_fault now room rest fault.Short ended.End off.0 refl;
   all = refl;
 }
 closes_fault now room fault.Long rest left off = record {
-  read = take room rest; back = drop room rest; parts = sym (take-append-drop room rest); left_is = off.1;
+  read = take room rest;
+  back = drop room rest;
+  parts = sym (take-append-drop room rest);
+  left_is = off.1;
   can = talk_fault now room (take room rest) fault.Long ended.Long (long_read (limit_of now.sector) room rest off.0) refl;
   all = tt;
 }
@@ -108,7 +118,10 @@ pub closes_none : (now : Standing) (room : ℕ) (rest : List ℕ) (left : Option
 closes_none now room rest left off =
     let none : rest ≡ [] = none_read (limit_of now.sector) room rest off.0 in
     record {
-      read = []; back = rest; parts = refl; left_is = off.1;
+      read = [];
+      back = rest;
+      parts = refl;
+      left_is = off.1;
       can = ap (talk_over now.number now.sector now.state) (frames_none (limit_of now.sector) room [] (ap (frame_at (limit_of now.sector) room) (sym none) ∙ off.0));
       all = none;
     }
@@ -139,12 +152,16 @@ closes begun now room how (Some bytes) left left_new acts_then acts taken_then t
     let read = so_far.0 in
     let rest = so_far.1 in
     let C : Option (List ℕ) → Type 0 = λ l. IfSome l (λ rest. Closes now room how rest left_new) in
-    let c : Closes now room how rest left_new = subst C so_far.3 close in
-    (read ++ c.read, c.back, so_far.2 ∙ ap (λ xs. read ++ xs) c.parts ∙ sym (append_assoc read c.read c.back), c.left_is,
+    let c : Closes now room how rest left_new = subst C so_far.3 close in (
+      read ++ c.read,
+      c.back,
+      so_far.2 ∙ ap (λ xs. read ++ xs) c.parts ∙ sym (append_assoc read c.read c.back),
+      c.left_is,
       grows_so acts_then acts _ _ (λ done grows.
-      let G : Option (List ℕ) → Type 0 = λ t. Grows taken_then t (λ sent. Conversed (talk_in begun (2 ^ 40) (read ++ c.read)) how done sent × ReadsAll how c.back) in
-      subst G (sym same) (grows_so taken_then taken_now _ _ (λ sent here.
-        (conversed_at how (talk_in begun (2 ^ 40) (read ++ c.read)) (talk_in now room c.read) done sent c.can (here c.read), c.all)) grows)) so_far.4)
+          let G : Option (List ℕ) → Type 0 = λ t. Grows taken_then t (λ sent. Conversed (talk_in begun (2 ^ 40) (read ++ c.read)) how done sent × ReadsAll how c.back) in
+          subst G (sym same) (grows_so taken_then taken_now _ _ (λ sent here.
+          (conversed_at how (talk_in begun (2 ^ 40) (read ++ c.read)) (talk_in now room c.read) done sent c.can (here c.read), c.all)) grows)) so_far.4,
+    )
 
 -- a body
 
@@ -167,18 +184,22 @@ in_body_so begun now room room_new body (Some bytes) left left_new acts_then act
     let rest = so_far.1 in
     let size = 8 + length body in
     let O : Option (List ℕ) → Type 0 = λ l. IfSome l (λ rest. TakesOff (λ (body : List ℕ). 8 + length body) room (Ok (Some body)) (frame_at (limit_of now.sector) room rest) rest left_new) in
-    let here : (frame_at (limit_of now.sector) room rest ≡ Ok (Some body)) × (left_new ≡ Some (drop size rest)) = subst O so_far.3 off in
-    (read ++ take size rest, drop size rest, so_far.2 ∙ ap (λ xs. read ++ xs) (sym (take-append-drop size rest)) ∙ sym (append_assoc read (take size rest) (drop size rest)), here.1,
+    let here : (frame_at (limit_of now.sector) room rest ≡ Ok (Some body)) × (left_new ≡ Some (drop size rest)) = subst O so_far.3 off in (
+      read ++ take size rest,
+      drop size rest,
+      so_far.2 ∙ ap (λ xs. read ++ xs) (sym (take-append-drop size rest)) ∙ sym (append_assoc read (take size rest) (drop size rest)),
+      here.1,
       grows_so acts_then acts _ _ (λ done grows.
-      let G : Option (List ℕ) → Type 0 = λ t. Grows taken_then t (λ sent. (more : List ℕ) → Here (talk_in begun (2 ^ 40) ((read ++ take size rest) ++ more)) (rest_in_body now room_new body more) done sent) in
-      subst G (sym same) (grows_so taken_then taken_now _ _ (λ sent here_for. λ more.
-        let whole : (read ++ take size rest) ++ more ≡ read ++ (take size rest ++ more) = append_assoc read (take size rest) more in
-        let step : talk_in now room (take size rest ++ more) ≡ rest_in_body now room_new body more =
-            ap (talk_over now.number now.sector now.state) (frames_more (limit_of now.sector) room rest body more here.0)
-            ∙ ap (λ r. rest_in_body now r body more) (sym rooms) in
-        let H : List ℕ → Type 0 = λ xs. Here (talk_in begun (2 ^ 40) xs) (rest_in_body now room_new body more) done sent in
-        let at = here_for (take size rest ++ more) in
-        subst H (sym whole) (at.0, at.1 ∙ ap (say sent) step)) grows)) so_far.4)
+          let G : Option (List ℕ) → Type 0 = λ t. Grows taken_then t (λ sent. (more : List ℕ) → Here (talk_in begun (2 ^ 40) ((read ++ take size rest) ++ more)) (rest_in_body now room_new body more) done sent) in
+          subst G (sym same) (grows_so taken_then taken_now _ _ (λ sent here_for. λ more.
+          let whole : (read ++ take size rest) ++ more ≡ read ++ (take size rest ++ more) = append_assoc read (take size rest) more in
+          let step : talk_in now room (take size rest ++ more) ≡ rest_in_body now room_new body more =
+          ap (talk_over now.number now.sector now.state) (frames_more (limit_of now.sector) room rest body more here.0)
+          ∙ ap (λ r. rest_in_body now r body more) (sym rooms) in
+          let H : List ℕ → Type 0 = λ xs. Here (talk_in begun (2 ^ 40) xs) (rest_in_body now room_new body more) done sent in
+          let at = here_for (take size rest ++ more) in
+          subst H (sym whole) (at.0, at.1 ∙ ap (say sent) step)) grows)) so_far.4,
+    )
 
 pub in_body : (begun now : Standing) (limit room room_new : ℕ) (body : List ℕ) (left_then left left_new : Option (List ℕ)) (acts_then acts : Option (List Act)) (taken_then taken_now taken_new : Option (List ℕ))
     → SoFar begun (talk_in now room) left_then left acts_then acts taken_then taken_now → limit ≡ limit_of now.sector
@@ -211,12 +232,16 @@ module _ (script : Script Ended) (part : Script Done) (more : State → Script E
   -- some of it was
   pub part_held : (body front : List ℕ) (now : State) → Takes part now (Ok (taken.Send body)) acts → IsPrefix front (frame_of body) → Runs script (done ++ acts) × IsPrefix (sent ++ front) (sent_of (after script (done ++ acts)))
   part_held body front now takes some =
-      let whole = part_sent body now takes in
-      (whole.0, (some.0 ++ sent_of (more now),
-        ap sent_of whole.1 ∙ sent_said (sent ++ frame_of body) (more now)
-        ∙ ap (λ xs. (sent ++ xs) ++ sent_of (more now)) some.1
-        ∙ ap (λ xs. xs ++ sent_of (more now)) (sym (append_assoc sent front some.0))
-        ∙ append_assoc (sent ++ front) some.0 (sent_of (more now))))
+      let whole = part_sent body now takes in (
+        whole.0,
+        (
+          some.0 ++ sent_of (more now),
+          ap sent_of whole.1 ∙ sent_said (sent ++ frame_of body) (more now)
+              ∙ ap (λ xs. (sent ++ xs) ++ sent_of (more now)) some.1
+              ∙ ap (λ xs. xs ++ sent_of (more now)) (sym (append_assoc sent front some.0))
+              ∙ append_assoc (sent ++ front) some.0 (sent_of (more now)),
+        ),
+      )
 
   -- the session ended
   pub part_exit : (now : State) → Takes part now (Ok taken.Exit) acts → Runs script (done ++ acts) × (after script (done ++ acts) ≡ Ends sent ended.Exit)
@@ -224,10 +249,13 @@ module _ (script : Script Ended) (part : Script Done) (more : State → Script E
 
   -- a stop came
   pub part_stopped : Cuts part acts → Cuts script (done ++ acts) × IsPrefix sent (sent_of (after script (done ++ acts)))
-  part_stopped cuts =
-      (cuts_on script done acts here.0 (part_cuts cuts),
-        (sent_of (after (and_then part (goes_on more)) acts),
-          ap sent_of (after_on script done acts here.0 ∙ ap (λ s. after s acts) here.1 ∙ after_said sent (and_then part (goes_on more)) acts) ∙ sent_said sent (after (and_then part (goes_on more)) acts)))
+  part_stopped cuts = (
+    cuts_on script done acts here.0 (part_cuts cuts),
+    (
+      sent_of (after (and_then part (goes_on more)) acts),
+      ap sent_of (after_on script done acts here.0 ∙ ap (λ s. after s acts) here.1 ∙ after_said sent (and_then part (goes_on more)) acts) ∙ sent_said sent (after (and_then part (goes_on more)) acts),
+    ),
+  )
 
   -- the session goes on
   sent_on : (what : Taken) (now : State) (front : List ℕ) → Takes part now (Ok what) acts → SentBy what None front → Here script (more now) (done ++ acts) (sent ++ front)
@@ -279,15 +307,19 @@ module _ (begun now new : Standing) (room : ℕ) (body : List ℕ) (left_then le
     where
       told : (left_then : Option (List ℕ)) → SoFar begun (rest_in_body now room body) left_then left acts_then acts taken_then taken_now → SoFar begun (talk_in new room) left_then left_new acts_then acts_new taken_then taken_new
       told None so_far = tt
-      told (Some bytes) so_far =
-          (so_far.0, so_far.1, so_far.2, same ∙ so_far.3,
-            grows_both acts_then acts acts_new _ _ _ so_far.4 exchanged (λ before done grows exchanged.
+      told (Some bytes) so_far = (
+        so_far.0,
+        so_far.1,
+        so_far.2,
+        same ∙ so_far.3,
+        grows_both acts_then acts acts_new _ _ _ so_far.4 exchanged (λ before done grows exchanged.
             grows_both taken_then taken_now taken_new _ _ _ grows exchanged (λ sent front here one. λ more.
-              let script = talk_in begun (2 ^ 40) (so_far.0 ++ more) in
-              let at = exchanged_on script (script_for now body) (others_for now room more) before done sent (here more) new.state front one in
-              let T : ℕ → ℕ → Script Ended = λ n s. talk_over n s new.state (frames_of (limit_of s) room more) in
-              let is : others_for now room more new.state ≡ talk_in new room more = ap (λ n. T n now.sector) (sym number) ∙ ap (λ s. T new.number s) (sym sector) in
-              (at.0, at.1 ∙ ap (say (sent ++ front)) is))))
+            let script = talk_in begun (2 ^ 40) (so_far.0 ++ more) in
+            let at = exchanged_on script (script_for now body) (others_for now room more) before done sent (here more) new.state front one in
+            let T : ℕ → ℕ → Script Ended = λ n s. talk_over n s new.state (frames_of (limit_of s) room more) in
+            let is : others_for now room more new.state ≡ talk_in new room more = ap (λ n. T n now.sector) (sym number) ∙ ap (λ s. T new.number s) (sym sector) in
+            (at.0, at.1 ∙ ap (say (sent ++ front)) is))),
+      )
 
   pub goes_no_further : (how : Ended) → Grows acts acts_new (λ done. Grows taken_now taken_new (λ sent. Exchanged (script_for now body) new.state (Some how) done sent)) → left_new ≡ left
       → Talked begun left_then left_new acts_then acts_new taken_then taken_new how
@@ -295,10 +327,14 @@ module _ (begun now new : Standing) (room : ℕ) (body : List ℕ) (left_then le
     where
       told : (left_then : Option (List ℕ)) → SoFar begun (rest_in_body now room body) left_then left acts_then acts taken_then taken_now → Talked begun left_then left_new acts_then acts_new taken_then taken_new how
       told None so_far = tt
-      told (Some bytes) so_far =
-          (so_far.0, so_far.1, so_far.2, same ∙ so_far.3,
-            grows_both acts_then acts acts_new _ _ _ so_far.4 exchanged (λ before done grows exchanged.
+      told (Some bytes) so_far = (
+        so_far.0,
+        so_far.1,
+        so_far.2,
+        same ∙ so_far.3,
+        grows_both acts_then acts acts_new _ _ _ so_far.4 exchanged (λ before done grows exchanged.
             grows_both taken_then taken_now taken_new _ _ _ grows exchanged (λ sent front here one.
-              let read = so_far.0 in
-              let H : List ℕ → Type 0 = λ xs. Here (talk_in begun (2 ^ 40) xs) (rest_in_body now room body []) before sent in
-              exchanged_last (talk_in begun (2 ^ 40) read) (script_for now body) (others_for now room []) before done sent (subst H (append-nil read) (here [])) how new.state front so_far.1 one)))
+            let read = so_far.0 in
+            let H : List ℕ → Type 0 = λ xs. Here (talk_in begun (2 ^ 40) xs) (rest_in_body now room body []) before sent in
+            exchanged_last (talk_in begun (2 ^ 40) read) (script_for now body) (others_for now room []) before done sent (subst H (append-nil read) (here [])) how new.state front so_far.1 one)),
+      )

@@ -1,7 +1,6 @@
 -- What a desk is asked and how it replies, as its acts tell it (RHP2 has the commands; what a desk is is this project's own).
-use Rattle.std.specs.Prelude.{◌≡◌, ◌≢◌, ◌⊎◌, ℕ, ◌+◌, ◌-◌, ◌^◌, ◌≤◌, ◌==◌, not, Bool, true, false, if◌then◌else◌, List, [], ◌∷◌, ◌++◌, length, Option, Some, None, Result, Ok, Err}
+use Rattle.std.specs.Prelude.{◌≡◌, ◌≢◌, ◌⊎◌, ℕ, ◌-◌, ◌^◌, ◌≤◌, ◌==◌, not, Bool, true, false, if◌then◌else◌, List, [], ◌∷◌, ◌++◌, length, Option, Some, None, Result, Ok, Err}
 use Rattle.sia_edge.specs.Edge.{Rose}
-use Rattle.sia_rhp.specs.declared.answer.Answer.{Answer}
 use Rattle.sia_rhp.specs.declared.label.Label.{Label}
 use Rattle.sia_rhp.specs.declared.label.Label.TheVariants as label
 use Rattle.sia_rhp.specs.Answers.{is_error, label_of_answer}

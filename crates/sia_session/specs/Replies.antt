@@ -8,8 +8,6 @@ use Rattle.sia_rhp.specs.Answers.{spelled_answer}
 use Rattle.sia_records.specs.Writes.{Prepared}
 use Rattle.sia_commands.specs.declared.reply.Reply.{Reply}
 use Rattle.sia_commands.specs.declared.reply.Reply.TheVariants as reply
-use Rattle.sia_session.specs.declared.state.Change.{Change}
-use Rattle.sia_session.specs.declared.state.Change.TheVariants as change
 use Rattle.sia_session.specs.declared.state.Kept.{Kept}
 use Rattle.sia_session.specs.declared.state.Kept.TheVariants as proposal
 use Rattle.sia_session.specs.declared.state.State.{State}
@@ -73,10 +71,3 @@ after_unlock before said = if is_said said then state.Idle else before
 -- after a reply to a proposal
 abbrev pub after_proposal : Kept → State → Reply → State
 after_proposal made before said = if is_said said then state.Proposed made else before
-
--- the state after a reply, by how it may change
-abbrev pub state_by : Change → Reply → State
-state_by (change.Stays before) said = before
-state_by (change.Locks before) said = after_lock before said
-state_by (change.Unlocks before) said = after_unlock before said
-state_by (change.Proposes made before) said = after_proposal made before said

@@ -1,8 +1,7 @@
 -- What a session asks for one body, and what it sends, given the replies (RHP2; siad's modules/host).
-use Rattle.std.specs.Prelude.{◌≡◌, ℕ, ◌+◌, ◌-◌, ◌*◌, ◌^◌, nat_lt, Bool, true, false, if◌then◌else◌, List, [], ◌∷◌, ◌++◌, map, length, Option, Some, None, option_map, Result, Ok, Err}
+use Rattle.std.specs.Prelude.{ℕ, ◌+◌, ◌-◌, ◌*◌, ◌^◌, nat_lt, if◌then◌else◌, List, [], ◌∷◌, ◌++◌, map, length, Option, Some, None, option_map, Result, Ok, Err}
 use Rattle.std.specs.List.{filter_map}
 use Rattle.sia_encoding.specs.declared.limits.TheConstants.{ACTIONS}
-use Rattle.sia_types.specs.declared.transaction.Transaction.{Transaction}
 use Rattle.sia_rhp.specs.declared.action.Action.{Action}
 use Rattle.sia_rhp.specs.declared.action.Action.TheVariants as actions
 use Rattle.sia_rhp.specs.declared.answer.Answer.TheVariants as answers
