@@ -1,5 +1,5 @@
 -- The session of a link, from Enter to Leave.
-use Rattle.std.proofs.Common.{◌≡◌, ◌^◌, ℕ, List, [], ◌∷◌, ◌++◌, Option, None, Some, Ok, Err, true, false, refl, sym, ap, subst, ◌∙◌, append_assoc}
+use Rattle.std.proofs.Common.{◌≡◌, ◌^◌, ℕ, List, [], ◌∷◌, ◌++◌, Option, None, Some, Result, Ok, Err, true, false, refl, sym, ap, subst, ◌∙◌, append_assoc}
 use Rattle.std.specs.Io.KnownBytes.{Appends}
 use Rattle.sia_edge.specs.Whole.{AppendsSomeOf}
 use Rattle.sia_rhp.specs.Frames.{frame_of, frames_of}
@@ -10,7 +10,7 @@ use Rattle.sia_commands.specs.declared.stop.Stop.{Stop}
 use Rattle.sia_commands.specs.declared.stop.Stop.TheVariants as stop
 use Rattle.sia_session.specs.declared.serve.Ended.{Ended}
 use Rattle.sia_session.specs.declared.serve.Ended.TheVariants as ended
-use Rattle.sia_session.specs.Acts.{Act, act, told, live_after}
+use Rattle.sia_session.specs.Acts.{Act, Acted, IsOfKind, LeavesLive, act, told, live_after}
 use Rattle.sia_session.specs.Script.{Script, Asks, say, after, sent_of}
 use Rattle.sia_session.specs.Served.{Standing, Begins, Conversed, LeftWhere, ReadsAll, Served, begun_as, entered, talk_in}
 use Rattle.sia_session.specs.Talk.{limit_of}
@@ -68,6 +68,15 @@ greeted_some script challenge left left_new acts taken_then taken_now same some 
     loses_none left left_new _ same (λ rest.
     none_more acts acts _ refl (grows_so taken_then taken_now _ _ (λ xs parts.
     ((tt, (parts.0 ++ sent_of (script []), sent_said (frame_of challenge) (script []) ∙ ap (λ ys. ys ++ sent_of (script [])) parts.1 ∙ append_assoc xs parts.0 (sent_of (script [])))), tt)) (grows_some taken_then taken_now (frame_of challenge) some)))
+
+-- Leave
+
+pub left_where : (size n : ℕ) (old new : Option (List Act)) (result : Result Reply Stop) → Acted old new n command.Leave result → LeavesLive old n command.Leave result → IsOfKind size command.Leave result → Grows old new (LeftWhere n old)
+left_where size n None new result acted live kind = tt
+left_where size n (Some old) None result acted live kind = absurd acted
+left_where size n (Some old) (Some new) (Err why) acted live kind = absurd kind
+left_where size n (Some old) (Some new) (Ok said) acted live kind =
+    (told n command.Leave (Ok said), acted, λ is. let e : said ≡ reply.Applied = live is in ap (λ r. told n command.Leave (Ok r)) e)
 
 -- Enter first
 

@@ -83,9 +83,13 @@ with_fetched now more (fetched.Refused said) = sends (spelled_reply said) now
 
 -- a read
 
+-- the sector that a section is of
+abbrev pub root_wanted : Section → Want
+root_wanted section = want.Root section.root
+
 -- the sectors that it needs: one for each section, or none where its own numbers refuse it
 abbrev pub sectors_read : ℕ → List Section → List Want
-sectors_read sector sections = if sections_fit sector sections then map (λ section. want.Root section.root) sections else []
+sectors_read sector sections = if sections_fit sector sections then map root_wanted sections else []
 
 -- the read, with its sectors
 abbrev pub read_with : State → ℕ → ReadRequest → List (List ℕ) → Script Done

@@ -2,8 +2,9 @@
 use sia_records::PreparedWrite;
 use sia_rhp::FormRequest;
 use sia_types::{Blob, Transaction};
+use std::marker::Model;
 
-/// What was proposed and waits for its signatures.
+/// What may be proposed.
 #[derive(Drop)]
 pub enum Kept {
     /// A formation.
@@ -14,6 +15,20 @@ pub enum Kept {
     Renew(Transaction),
 }
 
+/// What was proposed and waits for its signatures. Contracts see it as what was proposed.
+#[derive(Drop)]
+pub struct Proposal {
+    kept: Kept,
+}
+
+impl Model for Proposal {
+    ghost use Rattle.sia_session.specs.declared.state.Kept.{Kept as Waits};
+
+    ghost Value = { Waits };
+
+    ghost view = { λ p. p.kept };
+}
+
 /// The state of a session.
 #[derive(Drop)]
 pub enum State {
@@ -22,7 +37,7 @@ pub enum State {
     /// It holds a contract.
     Locked,
     /// A proposal waits for its signatures.
-    Proposed(Kept),
+    Proposed(Proposal),
 }
 
 /// What a body led to.
