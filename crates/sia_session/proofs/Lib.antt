@@ -1,0 +1,9 @@
+pub mod Scripts
+pub mod Following
+pub mod SectorsGot
+pub mod Streams
+pub mod Talking
+pub mod Answering
+pub mod Quiet
+pub mod Serving
+pub mod Exchanging
