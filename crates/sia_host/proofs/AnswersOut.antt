@@ -28,11 +28,11 @@ use Rattle.sia_host.specs.Locking.{lock_given, lock_judged, unlock_given}
 use Rattle.sia_host.specs.Outbox.{asking, due_handed, due_now, stale_handed, stale_of}
 use Rattle.sia_host.specs.Paying.{IsHeld, open_now}
 use Rattle.sia_host.specs.Renewing.{renew_added, renew_judged}
-use Rattle.sia_host.specs.Replaying.{HasLeast, is_renewal, replays}
+use Rattle.sia_host.specs.Replaying.{HasLeast, IsTyped, replays}
 use Rattle.sia_host.specs.Writing.{write_fault, write_proof}
 use Rattle.sia_host.proofs.FormedOut.{formed_out}
 use Rattle.sia_host.proofs.CommandsOut.{applied_out, read_out, reverted_out, roots_out}
-use Rattle.sia_host.proofs.RenewalsOut.{renewal_made}
+use Rattle.sia_host.proofs.RenewalsOut.{renewed_out}
 use Rattle.sia_host.proofs.WrittenOut.{written_out}
 
 -- an answer without a record has none
@@ -84,43 +84,43 @@ held_none h call (Ok c) fault said a made none is some = by (fault c) is
     by (Some code) at = no_record (refused h call (held_now h call.session) code) a made refl at some
     by None at = no_record (said c) a made (none c) at some
 
--- what a command records, but for renewals, follows on what a sound host knew, where its room has the least free slots
+-- what a command records follows on what a sound host knew, where its room has the least free slots
 pub answer_out : (accepts : List ℕ → List ℕ → List ℕ → Bool) (Signs : List ℕ → List ℕ → Type 0) (h : Host) (room : Room) (worker session : ℕ) (asked : Command) (a : Reaction) (made : HostRecord)
-    → IsSound h.settings.sector h.state.contracts → HasLeast h room → is_renewal made ≡ false → IsAnswer accepts Signs h room worker session asked a → a.made ≡ Some made → replays accepts h made ≡ true
-answer_out accepts Signs h room worker session command.Enter a made sound least other is some = absurd (no_record (enter_reaction h worker) a made refl is some)
-answer_out accepts Signs h room worker session command.Settings a made sound least other is some = absurd (no_record (settings_reaction h worker session) a made refl is some)
-answer_out accepts Signs h room worker session (command.Form request) a made sound least other is some =
+    → IsSound h.settings.sector h.settings.host_key h.state.contracts → HasLeast h room → IsTyped asked → IsAnswer accepts Signs h room worker session asked a → a.made ≡ Some made → replays accepts h made ≡ true
+answer_out accepts Signs h room worker session command.Enter a made sound least typed is some = absurd (no_record (enter_reaction h worker) a made refl is some)
+answer_out accepts Signs h room worker session command.Settings a made sound least typed is some = absurd (no_record (settings_reaction h worker session) a made refl is some)
+answer_out accepts Signs h room worker session (command.Form request) a made sound least typed is some =
     let call : Call = record { worker = worker; session = session; kind = kind.Form } in
     absurd (proposed_none h call None request.transaction (form_judged h session request) (form_added h call) a made (λ added. refl) is some)
-answer_out accepts Signs h room worker session (command.FormSign request renter) a made sound least other is some = formed_out accepts Signs h room worker session request renter a made is some
-answer_out accepts Signs h room worker session (command.Lock request) a made sound least other is some =
+answer_out accepts Signs h room worker session (command.FormSign request renter) a made sound least typed is some = formed_out accepts Signs h room worker session request renter a made is some
+answer_out accepts Signs h room worker session (command.Lock request) a made sound least typed is some =
     let call : Call = record { worker = worker; session = session; kind = kind.Lock } in
     absurd (no_record (lock_given h call request.contract (lock_judged accepts h session request) (holder_now h request.contract)) a made (lock_none h call request.contract (lock_judged accepts h session request) (holder_now h request.contract)) is some)
-answer_out accepts Signs h room worker session command.Unlock a made sound least other is some =
+answer_out accepts Signs h room worker session command.Unlock a made sound least typed is some =
     let call : Call = record { worker = worker; session = session; kind = kind.Unlock } in
     absurd (no_record (unlock_given h call (held_now h session)) a made (unlock_none h call (held_now h session)) is some)
-answer_out accepts Signs h room worker session (command.Fetch want) a made sound least other is some =
+answer_out accepts Signs h room worker session (command.Fetch want) a made sound least typed is some =
     let call : Call = record { worker = worker; session = session; kind = kind.Fetch } in
     absurd (no_record (fetch_given h call (slot_wanted h session want)) a made (fetch_none h call (slot_wanted h session want)) is some)
-answer_out accepts Signs h room worker session (command.Write write) a made sound least other is some =
+answer_out accepts Signs h room worker session (command.Write write) a made sound least typed is some =
     let call : Call = record { worker = worker; session = session; kind = kind.Write } in
     absurd (held_none h call (open_now h session) (write_fault h room write) (λ c. answered h call (Some c.id) outcome.Fine (reply.Said (answer.Write (write_proof c write))) None) a made (λ c. refl) is some)
-answer_out accepts Signs h room worker session (command.WriteSign write renter) a made sound least other is some = written_out accepts Signs h room worker session write renter a made sound least is some
-answer_out accepts Signs h room worker session (command.Read read) a made sound least other is some = read_out accepts Signs h room worker session read a made sound is some
-answer_out accepts Signs h room worker session (command.Roots request) a made sound least other is some = roots_out accepts Signs h room worker session request a made sound is some
-answer_out accepts Signs h room worker session (command.Renew tx) a made sound least other is some =
+answer_out accepts Signs h room worker session (command.WriteSign write renter) a made sound least typed is some = written_out accepts Signs h room worker session write renter a made sound least is some
+answer_out accepts Signs h room worker session (command.Read read) a made sound least typed is some = read_out accepts Signs h room worker session read a made sound is some
+answer_out accepts Signs h room worker session (command.Roots request) a made sound least typed is some = roots_out accepts Signs h room worker session request a made sound is some
+answer_out accepts Signs h room worker session (command.Renew tx) a made sound least typed is some =
     let call : Call = record { worker = worker; session = session; kind = kind.Renew } in
     absurd (proposed_none h call (held_now h session) tx (renew_judged h session tx) (renew_added h call) a made (λ added. refl) is some)
-answer_out accepts Signs h room worker session (command.RenewSign tx renter) a made sound least other is some =
-    absurd (let renewal : is_renewal made ≡ true = renewal_made accepts Signs h room worker session tx renter a made is some in let same : true ≡ false = sym renewal ∙ other in cc)
-answer_out accepts Signs h room worker session command.Leave a made sound least other is some =
+answer_out accepts Signs h room worker session (command.RenewSign tx renter) a made sound least typed is some =
+    renewed_out accepts Signs h room worker session typed.0 tx renter a made sound typed.1 is some
+answer_out accepts Signs h room worker session command.Leave a made sound least typed is some =
     let call : Call = record { worker = worker; session = session; kind = kind.Leave } in
     absurd (no_record (leave_given h call (session_now h session)) a made (leave_none h call (session_now h session)) is some)
-answer_out accepts Signs h room worker session (command.Apply block) a made sound least other is some = applied_out accepts h room worker block a made is some
-answer_out accepts Signs h room worker session command.Revert a made sound least other is some = reverted_out accepts h room worker a made is some
-answer_out accepts Signs h room worker session (command.Stale id first) a made sound least other is some =
+answer_out accepts Signs h room worker session (command.Apply block) a made sound least typed is some = applied_out accepts h room worker block a made is some
+answer_out accepts Signs h room worker session command.Revert a made sound least typed is some = reverted_out accepts h room worker a made is some
+answer_out accepts Signs h room worker session (command.Stale id first) a made sound least typed is some =
     let stale = option_map (stale_of h) (next_after id first (stale_contracts h)) in
     absurd (no_record (stale_handed h (asking worker kind.Stale) stale) a made (stale_none h (asking worker kind.Stale) stale) is some)
-answer_out accepts Signs h room worker session (command.Due id first) a made sound least other is some =
+answer_out accepts Signs h room worker session (command.Due id first) a made sound least typed is some =
     let due = option_and_then (due_now h) (next_after id first (due_contracts h)) in
     absurd (no_record (due_handed h (asking worker kind.Due) due) a made (due_none h (asking worker kind.Due) due) is some)

@@ -66,8 +66,8 @@ reverted_out accepts h room worker a made = by (height h.state.chain) refl
 -- reads
 
 -- a contract that a session may work with stores what it has
-pub opened_stores : (h : Host) (session : ℕ) (c : Kept) → IsSound h.settings.sector h.state.contracts → open_now h session ≡ Ok c → IsStored h.settings.sector c
-opened_stores h session c sound opened = found_stores h.settings.sector c.id h.state.contracts c sound.stored (opened_among h session c opened)
+pub opened_stores : (h : Host) (session : ℕ) (c : Kept) → IsSound h.settings.sector h.settings.host_key h.state.contracts → open_now h session ≡ Ok c → IsStored h.settings.sector h.settings.host_key c
+opened_stores h session c sound opened = found_stores h.settings.sector h.settings.host_key c.id h.state.contracts c sound.stored (opened_among h session c opened)
 
 -- the first fault isn't there, and neither is another
 pub past_one : (b : Bool) (code : ℕ) (rest : Option ℕ) → (broken b code or_else rest) ≡ None → (b ≡ false) × (rest ≡ None)
@@ -75,7 +75,7 @@ past_one true code rest is = (cc)
 past_one false code rest is = (refl, is)
 
 -- roots that are told
-pub roots_out : (accepts : List ℕ → List ℕ → List ℕ → Bool) (Signs : List ℕ → List ℕ → Type 0) (h : Host) (room : Room) (worker session : ℕ) (request : PaidRoots) (a : Reaction) (made : HostRecord) → IsSound h.settings.sector h.state.contracts
+pub roots_out : (accepts : List ℕ → List ℕ → List ℕ → Bool) (Signs : List ℕ → List ℕ → Type 0) (h : Host) (room : Room) (worker session : ℕ) (request : PaidRoots) (a : Reaction) (made : HostRecord) → IsSound h.settings.sector h.settings.host_key h.state.contracts
     → AreRoots accepts Signs h room worker session request a → a.made ≡ Some made → replays accepts h made ≡ true
 roots_out accepts Signs h room worker session request a made sound is some =
     let call : Call = record { worker = worker; session = session; kind = kind.Roots } in
@@ -88,7 +88,7 @@ roots_out accepts Signs h room worker session request a made sound is some =
     (nothing_changed h c (opened_stores h session c sound opened)) refl signed) revised some) is some
 
 -- parts of sectors that are read
-pub read_out : (accepts : List ℕ → List ℕ → List ℕ → Bool) (Signs : List ℕ → List ℕ → Type 0) (h : Host) (room : Room) (worker session : ℕ) (read : Read) (a : Reaction) (made : HostRecord) → IsSound h.settings.sector h.state.contracts
+pub read_out : (accepts : List ℕ → List ℕ → List ℕ → Bool) (Signs : List ℕ → List ℕ → Type 0) (h : Host) (room : Room) (worker session : ℕ) (read : Read) (a : Reaction) (made : HostRecord) → IsSound h.settings.sector h.settings.host_key h.state.contracts
     → IsRead accepts Signs h room worker session read a → a.made ≡ Some made → replays accepts h made ≡ true
 read_out accepts Signs h room worker session read a made sound is some =
     let call : Call = record { worker = worker; session = session; kind = kind.Read } in

@@ -94,14 +94,14 @@ all_eight : (a b c d e f g i : Bool) → a ≡ true → b ≡ true → c ≡ tru
 all_eight a b c d e f g i one two three four five six seven eight = rw (one, two, three, four, five, six, seven, eight) refl
 
 -- a revision that pays, whose changes are fit and which the renter signed, follows
-pub paying_follows : (accepts : List ℕ → List ℕ → List ℕ → Bool) (h : Host) (session : ℕ) (c : Kept) (p : Payment) (size : ℕ) (root renter host : List ℕ) (done : List Change) → IsSound h.settings.sector h.state.contracts
+pub paying_follows : (accepts : List ℕ → List ℕ → List ℕ → Bool) (h : Host) (session : ℕ) (c : Kept) (p : Payment) (size : ℕ) (root renter host : List ℕ) (done : List Change) → IsSound h.settings.sector h.settings.host_key h.state.contracts
     → open_now h session ≡ Ok c → Paid h c p → changes_fit h c done ≡ true → paid_revision c p size root ≡ expected h c p done → signs_revision accepts c.renter_key (paid_revision c p size root) renter ≡ true
     → replays accepts h (records.Revised (paid_revision c p size root) renter host done) ≡ true
 unfolding replays revision_with
 paying_follows accepts h session c p size root renter host done sound opened paid fit made signed =
     let revision = paid_revision c p size root in
     let there : contract_among c.id h.state.contracts ≡ Some c = opened_among h session c opened in
-    let stored : IsStored h.settings.sector c = found_stores h.settings.sector c.id h.state.contracts c sound.stored there in
+    let stored : IsStored h.settings.sector h.settings.host_key c = found_stores h.settings.sector h.settings.host_key c.id h.state.contracts c sound.stored there in
     let named : contract_among revision.parent h.state.contracts ≡ Some c = ap (λ id. contract_among id h.state.contracts) stored.parent ∙ there in
     let same : payment_in revision ≡ p = payment_again c p size root paid.counts in
     let spelled : is_spelled_as revision_codec revision (expected h c (payment_in revision) done) ≡ true =
@@ -152,5 +152,5 @@ held_out accepts h call (Ok c) fault Follows a made follows is some = by (fault 
     by None at is = follows c refl at is
 
 -- no change is fit, and takes no slot
-pub nothing_changed : (h : Host) (c : Kept) → IsStored h.settings.sector c → changes_fit h c [] ≡ true
+pub nothing_changed : (h : Host) (c : Kept) → IsStored h.settings.sector h.settings.host_key c → changes_fit h c [] ≡ true
 nothing_changed h c stored = rw (nothing_fits (length c.sectors) stored.few) refl

@@ -128,7 +128,7 @@ write_changes_fit h room c write least can enough =
     (le-leb (length (written_changes room write)) 16 few) (ap (is_fit (length c.sectors)) (steps_again (steps_of write) room.free) ∙ fit) (write_takes_least h room write least enough)
 
 -- the revision that a write proposes is the one that its changes make
-written_expected : (h : Host) (room : Room) (c : Kept) (write : Prepared) → IsStored h.settings.sector c → written_revision h write c ≡ expected h c (write_payment write.request) (written_changes room write)
+written_expected : (h : Host) (room : Room) (c : Kept) (write : Prepared) → IsStored h.settings.sector h.settings.host_key c → written_revision h write c ≡ expected h c (write_payment write.request) (written_changes room write)
 unfolding after
 written_expected h room c write stored = by (written_changes room write) (sym (steps_again (steps_of write) room.free))
   where
@@ -146,7 +146,7 @@ not_false false is = (cc)
 
 -- a write that is signed and kept
 pub written_out : (accepts : List ℕ → List ℕ → List ℕ → Bool) (Signs : List ℕ → List ℕ → Type 0) (h : Host) (room : Room) (worker session : ℕ) (write : Prepared) (renter : List ℕ) (a : Reaction) (made : HostRecord)
-    → IsSound h.settings.sector h.state.contracts → HasLeast h room → IsWriteSigned accepts Signs h room worker session write renter a → a.made ≡ Some made → replays accepts h made ≡ true
+    → IsSound h.settings.sector h.settings.host_key h.state.contracts → HasLeast h room → IsWriteSigned accepts Signs h room worker session write renter a → a.made ≡ Some made → replays accepts h made ≡ true
 written_out accepts Signs h room worker session write renter a made sound least is some =
     let call : Call = record { worker = worker; session = session; kind = kind.WriteSign } in
     let p = write_payment write.request in

@@ -38,7 +38,7 @@ make_written-requires g c =
 pub write_paid-requires : goal.write_paid-requires
 write_paid-requires g c =
     let h = c.args.self.now in
-    let sound : IsSound h.settings.sector h.state.contracts = subst (λ (x : Host). IsSound x.settings.sector x.state.contracts) c.self.view_is c.self.invariant.0 in
+    let sound : IsSound h.settings.sector h.settings.host_key h.state.contracts = subst (λ (x : Host). IsSound x.settings.sector x.settings.host_key x.state.contracts) c.self.view_is c.self.invariant.0 in
     let pays : c.in_ok-written-in-Ok.written.revision ≡ written_revision h c.args.write c.in-Ok.contract.now =
     c.in_ok-written-in-Ok.ensures.revision ∙ ap (λ (x : Host). written_revision x c.args.write c.in-Ok.contract.now) c.self.view_is in
     record {
