@@ -62,6 +62,6 @@ fault_event past event = record event { kind = kind.Fault; contract = None; outc
 abbrev pub faulted : Past → List Event → List Event
 faulted past events = earlier events ++ map (fault_event past) (drop (length events - 1) events)
 
--- the host whose last step is taken back
+-- The host whose last step is taken back. Of its records it counts those before that step: a record of the step may be on a disk or not.
 abbrev pub spoiled : Past → Host → Host
-spoiled past h = record h { events = faulted past h.events; phase = phase.Spoiled past }
+spoiled past h = record h { state = record h.state { count = past.records }; events = faulted past h.events; phase = phase.Spoiled past }

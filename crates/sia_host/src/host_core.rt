@@ -1,10 +1,11 @@
 //! The host, and what it keeps.
-ghost use Rattle.std.specs.Prelude.{◌≡◌, ℕ, ◌*◌, ◌^◌, ◌≤◌, [], ◌∷◌, ◌++◌, None, Some, IfOk, OnOk, OnErr, option_copied};
+ghost use Rattle.std.specs.Prelude.{◌≡◌, ℕ, ◌*◌, ◌^◌, ◌≤◌, [], ◌∷◌, ◌++◌, None, Some, IfOk, OnOk, OnErr, length, option_copied};
 ghost use Rattle.sia_encoding.specs.Answer.{Answers as Tells, itself, unless};
 ghost use Rattle.sia_ledger.specs.Chain.{begun};
 ghost use Rattle.sia_ledger.specs.Genesis.{genesis_refusal};
 ghost use Rattle.sia_commands.specs.declared.event.Outcome.TheVariants as outcome;
 ghost use Rattle.sia_commands.specs.declared.reply.Reply.TheVariants as reply;
+ghost use Rattle.sia_kept.specs.Sessions.{live_sessions as live_sessions_so};
 ghost use Rattle.sia_kept.specs.State.{IsSound, Kept, first_state};
 ghost use Rattle.sia_host.specs.Answered.{IsReaction, Host, answered, contract_now, event_of, held_now, idle_now, refused, settings_now};
 ghost use Rattle.sia_host.specs.declared.phase.Phase.TheVariants as phase;
@@ -103,6 +104,13 @@ impl Core {
         ensures { result ≡ (told_now self.now).records }
     {
         self.told().records
+    }
+
+    /// How many sessions are live.
+    pub fn live_sessions(&self) -> u64
+        ensures { result ≡ length (live_sessions_so self.now.seed self.now.events) }
+    {
+        self.log.live_count()
     }
 
     // What is told of the chain and the records.

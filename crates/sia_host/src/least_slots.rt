@@ -2,12 +2,14 @@
 ghost use Rattle.std.specs.Prelude.{◌≡◌, ◌+◌, ◌^◌, ◌<◌, ◌++◌, map, length, IfOk, OnOk};
 ghost use Rattle.std.specs.List.{filter, filter_map, range_with_len};
 ghost use Rattle.sia_kept.specs.State.{live_slots as live_slots_so};
+ghost use Rattle.sia_host.specs.Reporting.{slots_among as slots_among_so};
 ghost use Rattle.sia_host.specs.Marks.{AreMarked, is_unmarked};
 ghost use Rattle.sia_host.specs.Replaying.{least_free as least_free_so, slot_taken as slot_taken_so, takes_least as takes_least_so};
 ghost use Rattle.sia_records.specs.Stored.{Stored};
 
 use crate::host_core::Core;
-use sia_kept::Sector;
+use sia_blake::Hash;
+use sia_kept::{Sector, find_contract};
 use sia_records::Change;
 use std::alloc::{AllocError, Global};
 
@@ -26,8 +28,8 @@ impl Core {
         Ok(taken.as_slice() == free.as_slice())
     }
 
-    // The slots that have sectors.
-    fn live_slots(&self, alloc: Global) -> Result<Vec<u64>, AllocError>
+    /// The slots that have sectors: contract by contract, those of each in the order of its sectors. The error is want of memory.
+    pub fn live_slots(&self, alloc: Global) -> Result<Vec<u64>, AllocError>
         ensures { IfOk result (λ live. live.items ≡ live_slots_so self.now.state) }
     {
         let mut live = Vec::new(alloc);
@@ -35,6 +37,20 @@ impl Core {
             push_slots(&mut live, contract.sectors.as_slice())?;
         }
         Ok(live)
+    }
+
+    /// The slots of a contract's sectors, in order; none where the host doesn't know the contract. The error is want of memory.
+    pub fn slots_of(&self, alloc: Global, contract: &Hash) -> Result<Vec<u64>, AllocError>
+        ensures { IfOk result (λ slots. slots.items ≡ slots_among_so contract.now self.now.state.contracts) }
+    {
+        let mut slots = Vec::new(alloc);
+        match find_contract(&self.contracts, contract) {
+            None => Ok(slots),
+            Some(kept) => {
+                push_slots(&mut slots, kept.sectors.as_slice())?;
+                Ok(slots)
+            }
+        }
     }
 }
 

@@ -42,7 +42,7 @@ impl Core {
     }
 
     /// Takes the last step back, since a disk failed: the event of the fault stands in the place of the step's own. From then on sums, tip
-    /// and the count of records are told as before that step, and of the rest nothing is to be asked. It takes no memory.
+    /// and the count of records are told as before that step, in later events too, and of the rest nothing is to be asked. It takes no memory.
     pub fn spoil(&mut self)
         requires stepped { (past : Before) × (self.old.phase ≡ phase.Stepped past) }
         ensures { (past : Before) → self.old.phase ≡ phase.Stepped past → self.new ≡ spoiled_so past self.old }
@@ -55,6 +55,7 @@ impl Core {
         };
         let event = fault_event(&past, last);
         self.log.spoil(event);
+        self.records = past.records;
         self.phase = Phase::Spoiled(past);
     }
 

@@ -123,6 +123,13 @@ impl Log {
         self.events.as_slice()
     }
 
+    /// How many sessions are live.
+    pub fn live_count(&self) -> u64
+        ensures { result ≡ length (live_sessions self.now.seed self.now.events) }
+    {
+        self.sessions.len() as u64
+    }
+
     /// The session with this number, if it is live.
     pub fn session(&self, number: u64) -> Option<&Session>
         ensures { option_copied result ≡ with_number number (live_sessions self.now.seed self.now.events) }
