@@ -114,35 +114,44 @@ whole_follows accepts h key tx added renter host whole is said new sound =
     let fresh : is_new accepts h whole ≡ true = whole_fresh accepts h tx added renter host whole is new sound in
     all_four (length whole.revisions == 0) (has_coins_alone whole) (begins_so h key whole.contracts) (is_new accepts h whole) revisions others begins fresh
 
-kept_follows : (accepts : List ℕ → List ℕ → List ℕ → Bool) (h : Host) (room : Room) (call : Call) (key : List ℕ) (tx : Transaction) (signatures : List Signature) (a : Reaction) (made : HostRecord)
-    → (set_refusal accepts h.state.chain tx ≡ None → formed_replays accepts h key tx ≡ true) → a ≡ form_kept accepts h room call key tx signatures → a.made ≡ Some made → replays accepts h made ≡ true
-unfolding replays
-kept_follows accepts h room call key tx signatures a made follows = by (keeping_fault (lacks_room room (records.Formed key tx)) (set_refusal accepts h.state.chain tx)) refl
+-- what is shown of a formation that breaks no rule holds of what is kept
+kept_gives : (Q : HostRecord → Type 0) (accepts : List ℕ → List ℕ → List ℕ → Bool) (h : Host) (room : Room) (call : Call) (key : List ℕ) (tx : Transaction) (signatures : List Signature) (a : Reaction) (made : HostRecord)
+    → (set_refusal accepts h.state.chain tx ≡ None → Q (records.Formed key tx)) → a ≡ form_kept accepts h room call key tx signatures → a.made ≡ Some made → Q made
+kept_gives Q accepts h room call key tx signatures a made gives = by (keeping_fault (lacks_room room (records.Formed key tx)) (set_refusal accepts h.state.chain tx)) refl
   where
-    by : (fault : Option ℕ) → keeping_fault (lacks_room room (records.Formed key tx)) (set_refusal accepts h.state.chain tx) ≡ fault → a ≡ form_unless h call key tx signatures fault → a.made ≡ Some made → replays accepts h made ≡ true
+    by : (fault : Option ℕ) → keeping_fault (lacks_room room (records.Formed key tx)) (set_refusal accepts h.state.chain tx) ≡ fault → a ≡ form_unless h call key tx signatures fault → a.made ≡ Some made → Q made
     by (Some code) at is some = absurd (refused_none h call None code a made is some)
     by None at is some =
         let formed : a.made ≡ Some (records.Formed key tx) = ap (λ (r : Reaction). r.made) is in
         let both : Some (records.Formed key tx) ≡ Some made = sym formed ∙ some in
         let same : records.Formed key tx ≡ made = (cc) in
-        subst (λ m. replays accepts h m ≡ true) same (follows (nothing_broken (lacks_room room (records.Formed key tx)) (set_refusal accepts h.state.chain tx) at))
+        subst Q same (gives (nothing_broken (lacks_room room (records.Formed key tx)) (set_refusal accepts h.state.chain tx) at))
 
--- a formation that is signed and kept
-pub formed_out : (accepts : List ℕ → List ℕ → List ℕ → Bool) (Signs : List ℕ → List ℕ → Type 0) (h : Host) (room : Room) (worker session : ℕ) (request : FormRequest) (renter : List Signature) (a : Reaction) (made : HostRecord)
-    → IsFormSigned accepts Signs h room worker session request renter a → a.made ≡ Some made → replays accepts h made ≡ true
-formed_out accepts Signs h room worker session request renter a made = by (form_judged h session request) refl
+-- what is shown of each formation that is accepted, isn't known and breaks no rule holds of what is signed and kept
+pub formed_gives : (Q : HostRecord → Type 0) (accepts : List ℕ → List ℕ → List ℕ → Bool) (Signs : List ℕ → List ℕ → Type 0) (h : Host) (room : Room) (worker session : ℕ) (request : FormRequest) (renter : List Signature) (a : Reaction) (made : HostRecord)
+    → ((collateral : ℕ) (added : Additions) (host : List Signature) → form_judged h session request ≡ Ok collateral → is_formed h request.transaction added ≡ false
+    → set_refusal accepts h.state.chain (finished request.transaction added renter host) ≡ None → Q (records.Formed request.renter_key (finished request.transaction added renter host)))
+    → IsFormSigned accepts Signs h room worker session request renter a → a.made ≡ Some made → Q made
+formed_gives Q accepts Signs h room worker session request renter a made gives = by (form_judged h session request) refl
   where
     call : Call
     call = record { worker = worker; session = session; kind = kind.FormSign }
 
     signed : (added : Additions) (known : Bool) (collateral : ℕ) → is_formed h request.transaction added ≡ known → form_judged h session request ≡ Ok collateral
-        → MatchOption (broken known BAD_CONTRACT) (FormsSigned accepts Signs h room call request renter added a) (λ code. a ≡ refused h call None code) → a.made ≡ Some made → replays accepts h made ≡ true
+        → MatchOption (broken known BAD_CONTRACT) (FormsSigned accepts Signs h room call request renter added a) (λ code. a ≡ refused h call None code) → a.made ≡ Some made → Q made
     signed added true collateral new at is some = absurd (refused_none h call None BAD_CONTRACT a made is some)
     signed added false collateral new at is some =
-        kept_follows accepts h room call request.renter_key (finished request.transaction added renter is.0) is.0 a made
-        (whole_follows accepts h request.renter_key request.transaction added renter is.0 (finished request.transaction added renter is.0) refl (judged_says h session request collateral at) new)
-        is.2 some
+        kept_gives Q accepts h room call request.renter_key (finished request.transaction added renter is.0) is.0 a made (gives collateral added is.0 at new) is.2 some
 
-    by : (judged : Result ℕ ℕ) → form_judged h session request ≡ judged → IsProposed h call None request.transaction judged (FormsSigned accepts Signs h room call request renter) a → a.made ≡ Some made → replays accepts h made ≡ true
+    by : (judged : Result ℕ ℕ) → form_judged h session request ≡ judged → IsProposed h call None request.transaction judged (FormsSigned accepts Signs h room call request renter) a → a.made ≡ Some made → Q made
     by (Err code) at is some = absurd (refused_none h call None code a made is some)
     by (Ok collateral) at is some = signed is.0 (is_formed h request.transaction is.0) collateral refl at is.2 some
+
+-- a formation that is signed and kept
+pub formed_out : (accepts : List ℕ → List ℕ → List ℕ → Bool) (Signs : List ℕ → List ℕ → Type 0) (h : Host) (room : Room) (worker session : ℕ) (request : FormRequest) (renter : List Signature) (a : Reaction) (made : HostRecord)
+    → IsFormSigned accepts Signs h room worker session request renter a → a.made ≡ Some made → replays accepts h made ≡ true
+unfolding replays
+formed_out accepts Signs h room worker session request renter a made =
+    formed_gives (λ m. replays accepts h m ≡ true) accepts Signs h room worker session request renter a made
+    (λ collateral added host at new sound.
+    whole_follows accepts h request.renter_key request.transaction added renter host (finished request.transaction added renter host) refl (judged_says h session request collateral at) new sound)

@@ -141,53 +141,70 @@ whole_renews accepts h session tx added renter host whole is r stored new sound 
     all_six (not (was_cleared r.old)) (not (is_late h r.old)) (is_cleared r.old.newest whole.revisions) (has_coins_alone whole) (renews_so h r.old whole.contracts) (is_new accepts h whole)
     (ap not (opened_uncleared h session r.old r.opened)) (ap not r.early) clears coins begins fresh
 
--- and its revision names that contract
-whole_named : (accepts : List ℕ → List ℕ → List ℕ → Bool) (h : Host) (session limit : ℕ) (tx whole : Transaction) → transaction.fits limit tx → whole.revisions ≡ tx.revisions
-    → (r : Renews h session tx) → IsStored h.settings.sector h.settings.host_key r.old → renews_contract accepts h whole r.old ≡ true → renewed_replays accepts h whole whole.revisions ≡ true
-whole_named accepts h session limit tx whole fits same r stored follows =
+-- the revision of a renewal names the contract that it renews
+pub only_named : (h : Host) (session limit : ℕ) (tx : Transaction) → transaction.fits limit tx → (r : Renews h session tx) → IsStored h.settings.sector h.settings.host_key r.old
+    → (only : Revision) × (tx.revisions ≡ only ∷ []) × (only.parent ≡ r.old.id)
+only_named h session limit tx fits r stored =
     let said = renew_says tx r.old.newest (settings_now h) r.collateral r.answered in
     let found = clears_by r.old.newest tx.revisions said.clears in
     let own : (clearing r.old.newest).parent ≡ r.old.id = same_parent r.old.newest ∙ stored.parent in
-    let named : found.only.parent ≡ r.old.id = same_named found.only (clearing r.old.newest) (named_by limit tx found.only fits found.one) (ap length own ∙ stored.id) found.spelled ∙ own in
-    let there : contract_among found.only.parent h.state.contracts ≡ Some r.old = ap (λ id. contract_among id h.state.contracts) named ∙ opened_among h session r.old r.opened in
-    ap (renewed_replays accepts h whole) (same ∙ found.one) ∙ (ap (λ old. option_map_or (renews_contract accepts h whole) old false) there ∙ follows)
+    (found.only, (found.one, same_named found.only (clearing r.old.newest) (named_by limit tx found.only fits found.one) (ap length own ∙ stored.id) found.spelled ∙ own))
+
+-- so the whole renewal follows
+whole_named : (accepts : List ℕ → List ℕ → List ℕ → Bool) (h : Host) (session limit : ℕ) (tx whole : Transaction) → transaction.fits limit tx → whole.revisions ≡ tx.revisions
+    → (r : Renews h session tx) → IsStored h.settings.sector h.settings.host_key r.old → renews_contract accepts h whole r.old ≡ true → renewed_replays accepts h whole whole.revisions ≡ true
+whole_named accepts h session limit tx whole fits same r stored follows =
+    let found = only_named h session limit tx fits r stored in
+    let there : contract_among found.0.parent h.state.contracts ≡ Some r.old = ap (λ id. contract_among id h.state.contracts) found.1.1 ∙ opened_among h session r.old r.opened in
+    ap (renewed_replays accepts h whole) (same ∙ found.1.0) ∙ (ap (λ old. option_map_or (renews_contract accepts h whole) old false) there ∙ follows)
 
 -- the whole transaction has the revisions of the proposal
-whole_revisions : (tx : Transaction) (added : Additions) (renter host : List Signature) → (finished tx added renter host).revisions ≡ tx.revisions
+pub whole_revisions : (tx : Transaction) (added : Additions) (renter host : List Signature) → (finished tx added renter host).revisions ≡ tx.revisions
 unfolding finished
 whole_revisions tx added renter host = refl
 
-kept_renews : (accepts : List ℕ → List ℕ → List ℕ → Bool) (h : Host) (room : Room) (call : Call) (tx : Transaction) (signatures : List Signature) (a : Reaction) (made : HostRecord)
-    → (set_refusal accepts h.state.chain tx ≡ None → renewed_replays accepts h tx tx.revisions ≡ true) → a ≡ renew_kept accepts h room call tx signatures → a.made ≡ Some made → replays accepts h made ≡ true
-unfolding replays
-kept_renews accepts h room call tx signatures a made follows = by (keeping_fault (lacks_room room (records.Renewed tx)) (set_refusal accepts h.state.chain tx)) refl
+-- what is shown of a renewal that breaks no rule holds of what is kept
+kept_gives : (Q : HostRecord → Type 0) (accepts : List ℕ → List ℕ → List ℕ → Bool) (h : Host) (room : Room) (call : Call) (tx : Transaction) (signatures : List Signature) (a : Reaction) (made : HostRecord)
+    → (set_refusal accepts h.state.chain tx ≡ None → Q (records.Renewed tx)) → a ≡ renew_kept accepts h room call tx signatures → a.made ≡ Some made → Q made
+kept_gives Q accepts h room call tx signatures a made gives = by (keeping_fault (lacks_room room (records.Renewed tx)) (set_refusal accepts h.state.chain tx)) refl
   where
-    by : (fault : Option ℕ) → keeping_fault (lacks_room room (records.Renewed tx)) (set_refusal accepts h.state.chain tx) ≡ fault → a ≡ renew_unless h call tx signatures fault → a.made ≡ Some made → replays accepts h made ≡ true
+    by : (fault : Option ℕ) → keeping_fault (lacks_room room (records.Renewed tx)) (set_refusal accepts h.state.chain tx) ≡ fault → a ≡ renew_unless h call tx signatures fault → a.made ≡ Some made → Q made
     by (Some code) at is some = absurd (refused_none h call (held_now h call.session) code a made is some)
     by None at is some =
         let told : a.made ≡ Some (records.Renewed tx) = ap (λ (r : Reaction). r.made) is in
         let both : Some (records.Renewed tx) ≡ Some made = sym told ∙ some in
         let same : records.Renewed tx ≡ made = (cc) in
-        subst (λ m. replays accepts h m ≡ true) same (follows (nothing_broken (lacks_room room (records.Renewed tx)) (set_refusal accepts h.state.chain tx) at))
+        subst Q same (gives (nothing_broken (lacks_room room (records.Renewed tx)) (set_refusal accepts h.state.chain tx) at))
 
--- a renewal that is signed and kept, whose transaction is of its type
-pub renewed_out : (accepts : List ℕ → List ℕ → List ℕ → Bool) (Signs : List ℕ → List ℕ → Type 0) (h : Host) (room : Room) (worker session limit : ℕ) (tx : Transaction) (renter : List Signature) (a : Reaction) (made : HostRecord)
-    → IsSound h.settings.sector h.settings.host_key h.state.contracts → transaction.fits limit tx → IsRenewSigned accepts Signs h room worker session tx renter a → a.made ≡ Some made → replays accepts h made ≡ true
-renewed_out accepts Signs h room worker session limit tx renter a made sound fits = by (renew_judged h session tx) refl
+-- what is shown of each renewal that is accepted, isn't known and breaks no rule holds of what is signed and kept
+pub renewed_gives : (Q : HostRecord → Type 0) (accepts : List ℕ → List ℕ → List ℕ → Bool) (Signs : List ℕ → List ℕ → Type 0) (h : Host) (room : Room) (worker session : ℕ) (tx : Transaction) (renter : List Signature) (a : Reaction) (made : HostRecord)
+    → ((r : Renews h session tx) (added : Additions) (host : List Signature) → is_formed h tx added ≡ false → set_refusal accepts h.state.chain (finished tx added renter host) ≡ None → Q (records.Renewed (finished tx added renter host)))
+    → IsRenewSigned accepts Signs h room worker session tx renter a → a.made ≡ Some made → Q made
+renewed_gives Q accepts Signs h room worker session tx renter a made gives = by (renew_judged h session tx) refl
   where
     call : Call
     call = record { worker = worker; session = session; kind = kind.RenewSign }
 
     signed : (added : Additions) (known : Bool) (r : Renews h session tx) → is_formed h tx added ≡ known
-        → MatchOption (broken known BAD_CONTRACT) (RenewsSigned accepts Signs h room call tx renter added a) (λ code. a ≡ refused h call (held_now h session) code) → a.made ≡ Some made → replays accepts h made ≡ true
+        → MatchOption (broken known BAD_CONTRACT) (RenewsSigned accepts Signs h room call tx renter added a) (λ code. a ≡ refused h call (held_now h session) code) → a.made ≡ Some made → Q made
     signed added true r new is some = absurd (refused_none h call (held_now h session) BAD_CONTRACT a made is some)
-    signed added false r new is some =
-        let whole = finished tx added renter is.0 in
-        let stored : IsStored h.settings.sector h.settings.host_key r.old = found_stores h.settings.sector h.settings.host_key r.old.id h.state.contracts r.old sound.stored (opened_among h session r.old r.opened) in
-        kept_renews accepts h room call whole is.0 a made
-        (λ fine. whole_named accepts h session limit tx whole fits (whole_revisions tx added renter is.0) r stored (whole_renews accepts h session tx added renter is.0 whole refl r stored new fine))
-        is.2 some
+    signed added false r new is some = kept_gives Q accepts h room call (finished tx added renter is.0) is.0 a made (gives r added is.0 new) is.2 some
 
-    by : (judged : Result ℕ ℕ) → renew_judged h session tx ≡ judged → IsProposed h call (held_now h session) tx judged (RenewsSigned accepts Signs h room call tx renter) a → a.made ≡ Some made → replays accepts h made ≡ true
+    by : (judged : Result ℕ ℕ) → renew_judged h session tx ≡ judged → IsProposed h call (held_now h session) tx judged (RenewsSigned accepts Signs h room call tx renter) a → a.made ≡ Some made → Q made
     by (Err code) at is some = absurd (refused_none h call (held_now h session) code a made is some)
     by (Ok collateral) at is some = signed is.0 (is_formed h tx is.0) (judged_renews h session tx collateral at) refl is.2 some
+
+-- a contract that is renewed stores what it has
+pub renewed_stored : (h : Host) (session : ℕ) (tx : Transaction) (r : Renews h session tx) → IsSound h.settings.sector h.settings.host_key h.state.contracts → IsStored h.settings.sector h.settings.host_key r.old
+renewed_stored h session tx r sound = found_stores h.settings.sector h.settings.host_key r.old.id h.state.contracts r.old sound.stored (opened_among h session r.old r.opened)
+
+-- a renewal that is signed and kept, whose transaction is of its type
+pub renewed_out : (accepts : List ℕ → List ℕ → List ℕ → Bool) (Signs : List ℕ → List ℕ → Type 0) (h : Host) (room : Room) (worker session limit : ℕ) (tx : Transaction) (renter : List Signature) (a : Reaction) (made : HostRecord)
+    → IsSound h.settings.sector h.settings.host_key h.state.contracts → transaction.fits limit tx → IsRenewSigned accepts Signs h room worker session tx renter a → a.made ≡ Some made → replays accepts h made ≡ true
+unfolding replays
+renewed_out accepts Signs h room worker session limit tx renter a made sound fits =
+    renewed_gives (λ m. replays accepts h m ≡ true) accepts Signs h room worker session tx renter a made
+    (λ r added host new fine.
+    let whole = finished tx added renter host in
+    let stored = renewed_stored h session tx r sound in
+    whole_named accepts h session limit tx whole fits (whole_revisions tx added renter host) r stored (whole_renews accepts h session tx added renter host whole refl r stored new fine))

@@ -151,13 +151,13 @@ written_out accepts Signs h room worker session write renter a made sound least 
     let call : Call = record { worker = worker; session = session; kind = kind.WriteSign } in
     let p = write_payment write.request in
     let price = write_price write.request.actions in
-    held_out accepts h call (open_now h session) (write_fault h room write)
+    held_out (replays accepts h made ≡ true) h call (open_now h session) (write_fault h room write)
     (λ c b. IsRevised accepts Signs h room call c.id c.renter_key (written_revision h write c) renter (written_changes room write) write_signed (write_work room write c) b) a made
     (λ c opened fine revised.
     let first = past_one (not (can_write h c write)) BAD_ACTION (unpaid h c price p or_else broken (nat_lt (length room.free) (length (sectors_of write))) STORE_FULL) fine in
     let rest = both_none (unpaid h c price p) (broken (nat_lt (length room.free) (length (sectors_of write))) STORE_FULL) first.1 in
     let enough : length (sectors_of write) ≤ length room.free = ltb-false _ _ (not_broken (nat_lt (length room.free) (length (sectors_of write))) STORE_FULL rest.1) in
     let stored = opened_stores h session c sound opened in
-    revised_out accepts Signs h room call c.id c.renter_key (written_revision h write c) renter (written_changes room write) write_signed (write_work room write c) a made
+    revised_out (λ m. replays accepts h m ≡ true) accepts Signs h room call c.id c.renter_key (written_revision h write c) renter (written_changes room write) write_signed (write_work room write c) a made
     (λ host signed. paying_follows accepts h session c p (h.settings.sector * length (written_roots c write)) (node_root_of (written_roots c write)) renter host (written_changes room write) sound opened
     (paid_so h c price p rest.0) (write_changes_fit h room c write least (not_false (can_write h c write) first.0) enough) (written_expected h room c write stored) signed) revised some) is some
