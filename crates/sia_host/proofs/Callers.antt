@@ -8,6 +8,7 @@ use Rattle.sia_types.specs.declared.file_contracts.Revision.{Revision}
 use Rattle.sia_types.specs.declared.signature.Signature.{Signature}
 use Rattle.sia_types.specs.declared.transaction.Transaction.{Transaction}
 use Rattle.sia_rules.specs.declared.fault.BlockFault.{BlockFault}
+use Rattle.sia_rhp.specs.declared.answer.Answer.TheVariants as answer
 use Rattle.sia_rhp.specs.declared.request_bodies.LockRequest.{LockRequest}
 use Rattle.sia_ledger.specs.Chain.{height}
 use Rattle.sia_ledger.specs.Refusal.{refusal, set_refusal}
@@ -16,6 +17,7 @@ use Rattle.sia_forms.specs.Building.{finished}
 use Rattle.sia_records.specs.declared.change.Change.{Change}
 use Rattle.sia_records.specs.declared.host_record.HostRecord.{HostRecord}
 use Rattle.sia_records.specs.declared.host_record.HostRecord.TheVariants as records
+use Rattle.sia_records.specs.Writes.{Prepared}
 use Rattle.sia_commands.specs.declared.call.Call.{Call}
 use Rattle.sia_commands.specs.declared.codes.TheConstants.{BAD_CONTRACT, BAD_SIGNATURE, NO_CONTRACT}
 use Rattle.sia_commands.specs.declared.command.Command.{Command}
@@ -26,6 +28,7 @@ use Rattle.sia_commands.specs.declared.event.Kind.TheVariants as kind
 use Rattle.sia_commands.specs.declared.event.Outcome.{Outcome}
 use Rattle.sia_commands.specs.declared.event.Outcome.TheVariants as outcome
 use Rattle.sia_commands.specs.declared.reply.Reply.{Reply}
+use Rattle.sia_commands.specs.declared.reply.Reply.TheVariants as reply
 use Rattle.sia_commands.specs.declared.step.Room.{Room}
 use Rattle.sia_kept.specs.declared.session.Session.{Session}
 use Rattle.sia_kept.specs.Sessions.{effect_of, is_held, live_sessions}
@@ -33,7 +36,7 @@ use Rattle.sia_kept.specs.State.{Kept, contract_among, is_among}
 use Rattle.sia_kept.proofs.Apart.{same_bytes}
 use Rattle.sia_host.specs.declared.outbox.Due.{Due}
 use Rattle.sia_host.specs.declared.outbox.Stale.{Stale}
-use Rattle.sia_host.specs.Answered.{Host, Reaction, Work, event_of, held_now, held_of, holder_now, idle_of, idle_one, lacks_room, next_session, or_code, refused, session_now}
+use Rattle.sia_host.specs.Answered.{Host, Reaction, Work, answered, event_of, held_now, held_of, holder_now, idle_of, idle_one, lacks_room, next_session, no_work, or_code, refused, session_now}
 use Rattle.sia_host.specs.Answers.{IsAnswer}
 use Rattle.sia_host.specs.Entering.{leave_given}
 use Rattle.sia_host.specs.Feeding.{apply_given, no_session, recorded_unless, revert_given}
@@ -43,10 +46,10 @@ use Rattle.sia_host.specs.Holding.{is_refusal}
 use Rattle.sia_host.specs.Jobs.{due_contracts, next_after, stale_contracts}
 use Rattle.sia_host.specs.Locking.{lock_given, lock_judged, lock_reaction, signs_lock, unlock_given}
 use Rattle.sia_host.specs.Outbox.{asking, due_handed, due_now, stale_handed, stale_of}
-use Rattle.sia_host.specs.Paying.{IsHeld, IsRevised, open_now, revised_unless, revising_fault}
-use Rattle.sia_host.specs.Reading.{read_fault, roots_fault}
+use Rattle.sia_host.specs.Paying.{IsHeld, IsRevised, open_now, paid_revision, revised_unless, revising_fault}
+use Rattle.sia_host.specs.Reading.{read_fault, read_payment, read_said, roots_fault, roots_payment, roots_said}
 use Rattle.sia_host.specs.Renewing.{RenewsSigned, renew_added, renew_judged, renew_unless}
-use Rattle.sia_host.specs.Writing.{write_fault}
+use Rattle.sia_host.specs.Writing.{write_fault, write_proof, write_signed, write_work, written_changes, written_revision}
 use Rattle.sia_host.proofs.SessionsHeld.{Allowed}
 
 -- who gives a command, and of which kind it is: one that begins a session has the number of that session, and what the feed gives or a
@@ -75,11 +78,11 @@ call_of h worker session (command.Due id first) = record { worker = worker; sess
 abbrev pub IsOf : Call → Reaction → Type 0
 IsOf call a = MatchOption a.event (a.made ≡ None) (λ event. (event.kind ≡ call.kind) × (event.session ≡ call.session))
 
-of_same : (call : Call) (r a : Reaction) → IsOf call r → a ≡ r → IsOf call a
-of_same call r a of is = subst (IsOf call) (sym is) of
+of_same : (call : Call) (r a : Reaction) → a ≡ r → IsOf call r → IsOf call a
+of_same call r a is of = subst (IsOf call) (sym is) of
 
 of_refused : (h : Host) (call : Call) (contract : Option (List ℕ)) (code : ℕ) (a : Reaction) → a ≡ refused h call contract code → IsOf call a
-of_refused h call contract code a is = of_same call (refused h call contract code) a (refl, refl) is
+of_refused h call contract code a is = of_same call (refused h call contract code) a is (refl, refl)
 
 of_proposed : (h : Host) (call : Call) (held : Option (List ℕ)) (tx : Transaction) (judged : Result ℕ ℕ) (Follows : Additions → Reaction → Type 0) (a : Reaction) → ((added : Additions) → Follows added a → IsOf call a)
     → IsProposed h call held tx judged Follows a → IsOf call a
@@ -90,10 +93,9 @@ of_proposed h call held tx (Ok collateral) Follows a of is = by (is_formed h tx 
     by true at = of_refused h call held BAD_CONTRACT a at
     by false at = of is.0 at
 
-of_held : (h : Host) (call : Call) (opened : Result Kept ℕ) (fault : Kept → Option ℕ) (Follows : Kept → Reaction → Type 0) (a : Reaction) → ((c : Kept) → Follows c a → IsOf call a)
-    → IsHeld h call opened fault Follows a → IsOf call a
-of_held h call (Err code) fault Follows a of is = of_refused h call (held_now h call.session) code a is
-of_held h call (Ok c) fault Follows a of is = by (fault c) is
+of_held : (h : Host) (call : Call) (opened : Result Kept ℕ) (fault : Kept → Option ℕ) (Follows : Kept → Reaction → Type 0) (a : Reaction) → IsHeld h call opened fault Follows a → ((c : Kept) → Follows c a → IsOf call a) → IsOf call a
+of_held h call (Err code) fault Follows a is of = of_refused h call (held_now h call.session) code a is
+of_held h call (Ok c) fault Follows a is of = by (fault c) is
   where
     by : (f : Option ℕ) → MatchOption f (Follows c a) (λ code. a ≡ refused h call (held_now h call.session) code) → IsOf call a
     by (Some code) at = of_refused h call (held_now h call.session) code a at
@@ -108,15 +110,15 @@ of_revised accepts Signs h room call id key revision renter changes said work a 
 
     by : (fault : Option ℕ) → a ≡ revised_unless h call id (said revised.0) made work fault → IsOf call a
     by (Some code) is = of_refused h call (Some id) code a is
-    by None is = of_same call (revised_unless h call id (said revised.0) made work None) a (refl, refl) is
+    by None is = of_same call (revised_unless h call id (said revised.0) made work None) a is (refl, refl)
 
 of_formed : (h : Host) (call : Call) (key : List ℕ) (tx : Transaction) (signatures : List Signature) (fault : Option ℕ) (a : Reaction) → a ≡ form_unless h call key tx signatures fault → IsOf call a
 of_formed h call key tx signatures (Some code) a is = of_refused h call None code a is
-of_formed h call key tx signatures None a is = of_same call (form_unless h call key tx signatures None) a (refl, refl) is
+of_formed h call key tx signatures None a is = of_same call (form_unless h call key tx signatures None) a is (refl, refl)
 
 of_renewed : (h : Host) (call : Call) (tx : Transaction) (signatures : List Signature) (fault : Option ℕ) (a : Reaction) → a ≡ renew_unless h call tx signatures fault → IsOf call a
 of_renewed h call tx signatures (Some code) a is = of_refused h call (held_now h call.session) code a is
-of_renewed h call tx signatures None a is = of_same call (renew_unless h call tx signatures None) a (refl, refl) is
+of_renewed h call tx signatures None a is = of_same call (renew_unless h call tx signatures None) a is (refl, refl)
 
 of_lock : (h : Host) (call : Call) (id : List ℕ) (judged : Result Kept ℕ) (holder : Option ℕ) → IsOf call (lock_given h call id judged holder)
 of_lock h call id (Err code) holder = (refl, refl)
@@ -155,14 +157,18 @@ of_due : (h : Host) (call : Call) (due : Option Due) → IsOf call (due_handed h
 of_due h call None = (refl, refl)
 of_due h call (Some due) = (refl, refl)
 
+-- what a write is answered
+abbrev written : Host → Call → Kept → Prepared → Reaction
+written h call c write = answered h call (Some c.id) outcome.Fine (reply.Said (answer.Write (write_proof c write))) None
+
 -- so it is of the command's call
 pub of_answer : (accepts : List ℕ → List ℕ → List ℕ → Bool) (Signs : List ℕ → List ℕ → Type 0) (h : Host) (room : Room) (worker session : ℕ) (asked : Command) (a : Reaction)
     → IsAnswer accepts Signs h room worker session asked a → IsOf (call_of h worker session asked) a
-of_answer accepts Signs h room worker session command.Enter a is = of_same (call_of h worker session command.Enter) _ a (refl, refl) is
-of_answer accepts Signs h room worker session command.Settings a is = of_same (call_of h worker session command.Settings) _ a (refl, refl) is
+of_answer accepts Signs h room worker session command.Enter a is = of_same (call_of h worker session command.Enter) _ a is (refl, refl)
+of_answer accepts Signs h room worker session command.Settings a is = of_same (call_of h worker session command.Settings) _ a is (refl, refl)
 of_answer accepts Signs h room worker session (command.Form request) a is =
     let call = call_of h worker session (command.Form request) in
-    of_proposed h call None request.transaction (form_judged h session request) (λ added b. b ≡ form_added h call added) a (λ added at. of_same call (form_added h call added) a (refl, refl) at) is
+    of_proposed h call None request.transaction (form_judged h session request) (λ added b. b ≡ form_added h call added) a (λ added at. of_same call (form_added h call added) a at (refl, refl)) is
 of_answer accepts Signs h room worker session (command.FormSign request renter) a is =
     let call = call_of h worker session (command.FormSign request renter) in
     of_proposed h call None request.transaction (form_judged h session request) (FormsSigned accepts Signs h room call request renter) a
@@ -171,28 +177,36 @@ of_answer accepts Signs h room worker session (command.FormSign request renter) 
     of_formed h call request.renter_key whole at.0 (keeping_fault (lacks_room room (records.Formed request.renter_key whole)) (set_refusal accepts h.state.chain whole)) a at.2) is
 of_answer accepts Signs h room worker session (command.Lock request) a is =
     let call = call_of h worker session (command.Lock request) in
-    of_same call _ a (of_lock h call request.contract (lock_judged accepts h session request) (holder_now h request.contract)) is
+    of_same call _ a is (of_lock h call request.contract (lock_judged accepts h session request) (holder_now h request.contract))
 of_answer accepts Signs h room worker session command.Unlock a is =
     let call = call_of h worker session command.Unlock in
-    of_same call _ a (of_unlock h call (held_now h session)) is
+    of_same call _ a is (of_unlock h call (held_now h session))
 of_answer accepts Signs h room worker session (command.Fetch want) a is =
     let call = call_of h worker session (command.Fetch want) in
-    of_same call _ a (of_fetch h call (slot_wanted h session want)) is
+    of_same call _ a is (of_fetch h call (slot_wanted h session want))
 of_answer accepts Signs h room worker session (command.Write write) a is =
     let call = call_of h worker session (command.Write write) in
-    of_held h call (open_now h session) (write_fault h room write) _ a (λ c at. of_same call _ a (refl, refl) at) is
+    of_held h call (open_now h session) (write_fault h room write) (λ c b. b ≡ written h call c write) a is (λ c at. of_same call (written h call c write) a at (refl, refl))
 of_answer accepts Signs h room worker session (command.WriteSign write renter) a is =
     let call = call_of h worker session (command.WriteSign write renter) in
-    of_held h call (open_now h session) (write_fault h room write) _ a (λ c at. of_revised accepts Signs h room call _ _ _ _ _ _ _ a at) is
+    let Signed = λ (c : Kept) (b : Reaction). IsRevised accepts Signs h room call c.id c.renter_key (written_revision h write c) renter (written_changes room write) write_signed (write_work room write c) b in
+    of_held h call (open_now h session) (write_fault h room write) Signed a is
+    (λ c at. of_revised accepts Signs h room call c.id c.renter_key (written_revision h write c) renter (written_changes room write) write_signed (write_work room write c) a at)
 of_answer accepts Signs h room worker session (command.Read read) a is =
     let call = call_of h worker session (command.Read read) in
-    of_held h call (open_now h session) (read_fault h read) _ a (λ c at. of_revised accepts Signs h room call _ _ _ _ _ _ _ a at) is
+    let paid = λ (c : Kept). paid_revision c (read_payment read.request) c.newest.size c.newest.root in
+    let Paid = λ (c : Kept) (b : Reaction). IsRevised accepts Signs h room call c.id c.renter_key (paid c) read.request.signature [] (read_said read) no_work b in
+    of_held h call (open_now h session) (read_fault h read) Paid a is
+    (λ c at. of_revised accepts Signs h room call c.id c.renter_key (paid c) read.request.signature [] (read_said read) no_work a at)
 of_answer accepts Signs h room worker session (command.Roots request) a is =
     let call = call_of h worker session (command.Roots request) in
-    of_held h call (open_now h session) (roots_fault h request) _ a (λ c at. of_revised accepts Signs h room call _ _ _ _ _ _ _ a at) is
+    let paid = λ (c : Kept). paid_revision c (roots_payment request) c.newest.size c.newest.root in
+    let Paid = λ (c : Kept) (b : Reaction). IsRevised accepts Signs h room call c.id c.renter_key (paid c) request.signature [] (roots_said c request) no_work b in
+    of_held h call (open_now h session) (roots_fault h request) Paid a is
+    (λ c at. of_revised accepts Signs h room call c.id c.renter_key (paid c) request.signature [] (roots_said c request) no_work a at)
 of_answer accepts Signs h room worker session (command.Renew tx) a is =
     let call = call_of h worker session (command.Renew tx) in
-    of_proposed h call (held_now h session) tx (renew_judged h session tx) (λ added b. b ≡ renew_added h call added) a (λ added at. of_same call (renew_added h call added) a (refl, refl) at) is
+    of_proposed h call (held_now h session) tx (renew_judged h session tx) (λ added b. b ≡ renew_added h call added) a (λ added at. of_same call (renew_added h call added) a at (refl, refl)) is
 of_answer accepts Signs h room worker session (command.RenewSign tx renter) a is =
     let call = call_of h worker session (command.RenewSign tx renter) in
     of_proposed h call (held_now h session) tx (renew_judged h session tx) (RenewsSigned accepts Signs h room call tx renter) a
@@ -201,19 +215,19 @@ of_answer accepts Signs h room worker session (command.RenewSign tx renter) a is
     of_renewed h call whole at.0 (keeping_fault (lacks_room room (records.Renewed whole)) (set_refusal accepts h.state.chain whole)) a at.2) is
 of_answer accepts Signs h room worker session command.Leave a is =
     let call = call_of h worker session command.Leave in
-    of_same call _ a (of_leave h call (session_now h session)) is
+    of_same call _ a is (of_leave h call (session_now h session))
 of_answer accepts Signs h room worker session (command.Apply block) a is =
     let call = call_of h worker session (command.Apply block) in
-    of_same call _ a (of_apply h (lacks_room room (records.Block block)) call block (refusal accepts h.state.chain block)) is
+    of_same call _ a is (of_apply h (lacks_room room (records.Block block)) call block (refusal accepts h.state.chain block))
 of_answer accepts Signs h room worker session command.Revert a is =
     let call = call_of h worker session command.Revert in
-    of_same call _ a (of_revert h room call (height h.state.chain)) is
+    of_same call _ a is (of_revert h room call (height h.state.chain))
 of_answer accepts Signs h room worker session (command.Stale id first) a is =
     let call = call_of h worker session (command.Stale id first) in
-    of_same call _ a (of_stale h call (option_map (stale_of h) (next_after id first (stale_contracts h)))) is
+    of_same call _ a is (of_stale h call (option_map (stale_of h) (next_after id first (stale_contracts h))))
 of_answer accepts Signs h room worker session (command.Due id first) a is =
     let call = call_of h worker session (command.Due id first) in
-    of_same call _ a (of_due h call (option_and_then (due_now h) (next_after id first (due_contracts h)))) is
+    of_same call _ a is (of_due h call (option_and_then (due_now h) (next_after id first (due_contracts h))))
 
 -- what it does to the session
 
@@ -305,7 +319,7 @@ lock_allowed accepts h worker session request a event is noted =
     by (Ok kept) (Some holder) at free some = so (Some request.contract) (outcome.Held holder) tt some
     by (Ok kept) None at free some =
         let can = judged_lockable accepts h session request kept at in
-        so (Some request.contract) outcome.Fine (can.known, (can.live, (can.idle, free))) some
+        so (Some request.contract) outcome.Fine (can.known, can.live, can.idle, free) some
 
 -- a command of a lock's kind asks for one
 lock_asked : (accepts : List ℕ → List ℕ → List ℕ → Bool) (Signs : List ℕ → List ℕ → Type 0) (h : Host) (room : Room) (worker session : ℕ) (asked : Command) (a : Reaction)

@@ -1,10 +1,11 @@
 -- Who makes a record that names a known contract holds that contract, and the contract stays known.
-use Rattle.std.proofs.Common.{◌≡◌, ◌∙◌, ℕ, Bool, true, false, ◌||◌, List, [], ◌∷◌, ◌++◌, find, Option, Some, None, Result, Ok, Err, if◌then◌else◌, refl, sym, ap, subst}
+use Rattle.std.proofs.Common.{◌≡◌, ◌∙◌, ◌*◌, ℕ, Bool, true, false, ◌||◌, List, [], ◌∷◌, ◌++◌, find, length, Option, Some, None, Result, Ok, Err, if◌then◌else◌, refl, sym, ap, subst}
 use Rattle.std.specs.List.{list_any}
 use Rattle.std.specs.Option.{is_some}
 use Rattle.std.specs.Str.{bytes_eq}
 use Rattle.sia_encoding.specs.Answer.{◌>>=◌, unless}
 use Rattle.sia_encoding.specs.Firsts.{broken}
+use Rattle.sia_merkle.specs.Roots.{node_root_of}
 use Rattle.sia_types.specs.Transaction.{transaction}
 use Rattle.sia_types.specs.declared.file_contracts.Revision.{Revision}
 use Rattle.sia_types.specs.declared.signature.Signature.{Signature}
@@ -25,14 +26,14 @@ use Rattle.sia_commands.specs.declared.reply.Reply.{Reply}
 use Rattle.sia_commands.specs.declared.step.Room.{Room}
 use Rattle.sia_kept.specs.State.{Kept, IsSound, IsStored, after_renewal, changed_at, cleared_by, contract_among, contracts_after, formed_by, is_among, renewed_by, revised_contract}
 use Rattle.sia_kept.proofs.Apart.{among_changed, found_id, same_bytes}
-use Rattle.sia_host.specs.Answered.{Host, Reaction, Work, held_now, or_code}
+use Rattle.sia_host.specs.Answered.{Host, Reaction, Work, held_now, no_work, or_code}
 use Rattle.sia_host.specs.Answers.{IsAnswer}
 use Rattle.sia_host.specs.Forming.{is_formed}
 use Rattle.sia_host.specs.Holding.{names}
 use Rattle.sia_host.specs.Paying.{IsRevised, Payment, held_among, open_now, paid_revision, was_cleared}
 use Rattle.sia_host.specs.Reading.{read_fault, read_payment, read_said, roots_fault, roots_payment, roots_said}
 use Rattle.sia_host.specs.Replaying.{IsTyped}
-use Rattle.sia_host.specs.Writing.{write_fault, write_payment, write_signed, write_work, written_changes, written_revision}
+use Rattle.sia_host.specs.Writing.{write_fault, write_payment, write_signed, write_work, written_changes, written_revision, written_roots}
 use Rattle.sia_host.proofs.AnswersOut.{made_by}
 use Rattle.sia_host.proofs.Callers.{call_of}
 use Rattle.sia_host.proofs.CommandsOut.{applied_gives, opened_stores, reverted_gives}
@@ -115,8 +116,8 @@ renewed_owns h session limit tx contract r added renter host sound fits known ne
     by true at named = absurd (unknown_named h tx added renter host contract known new at)
     by false at named =
         let found = only_named h session limit tx fits r (renewed_stored h session tx r sound) in
-        let parent : found.0.parent ≡ contract = one_names contract (finished tx added renter host).revisions found.0 (whole_revisions tx added renter host ∙ found.1.0) named in
-        opened_held h session r.old r.opened ∙ ap Some (sym found.1.1 ∙ parent)
+        let parent : found.0.parent ≡ contract = one_names contract (finished tx added renter host).revisions found.0 (whole_revisions tx added renter host ∙ found.1) named in
+        opened_held h session r.old r.opened ∙ ap Some (sym found.2 ∙ parent)
 
 -- who makes a record that names a known contract holds it, and is the session of its call
 pub record_held : (accepts : List ℕ → List ℕ → List ℕ → Bool) (Signs : List ℕ → List ℕ → Type 0) (h : Host) (room : Room) (worker session : ℕ) (asked : Command) (a : Reaction) (made : HostRecord) (contract : List ℕ)
@@ -128,17 +129,23 @@ record_held accepts Signs h room worker session asked a made contract sound type
       formed_gives (λ m. names contract m ≡ true → ⊥) accepts Signs h room worker session request renter a made
       (λ collateral added host judged new fine. unknown_named h request.transaction added renter host contract known new) signed some named));
       written = (λ write renter at signed.
-      (held_out (held_now h session ≡ Some contract) h (record { worker = worker; session = session; kind = kind.WriteSign }) (open_now h session) (write_fault h room write)
-      (λ c b. IsRevised accepts Signs h room (record { worker = worker; session = session; kind = kind.WriteSign }) c.id c.renter_key (written_revision h write c) renter (written_changes room write) write_signed (write_work room write c) b) a made
-      (λ c opened fine revised. revised_owns accepts Signs h room _ session contract c (write_payment write.request) _ _ renter (written_changes room write) write_signed (write_work room write c) a made sound opened revised some named) signed some,
+      let call : Call = record { worker = worker; session = session; kind = kind.WriteSign } in
+      (held_out (held_now h session ≡ Some contract) h call (open_now h session) (write_fault h room write)
+      (λ c b. IsRevised accepts Signs h room call c.id c.renter_key (written_revision h write c) renter (written_changes room write) write_signed (write_work room write c) b) a made
+      (λ c opened fine revised. revised_owns accepts Signs h room call session contract c (write_payment write.request) (h.settings.sector * length (written_roots c write)) (node_root_of (written_roots c write)) renter (written_changes room write)
+      write_signed (write_work room write c) a made sound opened revised some named) signed some,
       ap (λ k. (call_of h worker session k).session) at));
       read = (λ read at served.
-      (held_out (held_now h session ≡ Some contract) h (record { worker = worker; session = session; kind = kind.Read }) (open_now h session) (read_fault h read) _ a made
-      (λ c opened fine revised. revised_owns accepts Signs h room _ session contract c (read_payment read.request) _ _ _ [] (read_said read) _ a made sound opened revised some named) served some,
+      let call : Call = record { worker = worker; session = session; kind = kind.Read } in
+      (held_out (held_now h session ≡ Some contract) h call (open_now h session) (read_fault h read)
+      (λ c b. IsRevised accepts Signs h room call c.id c.renter_key (paid_revision c (read_payment read.request) c.newest.size c.newest.root) read.request.signature [] (read_said read) no_work b) a made
+      (λ c opened fine revised. revised_owns accepts Signs h room call session contract c (read_payment read.request) c.newest.size c.newest.root read.request.signature [] (read_said read) no_work a made sound opened revised some named) served some,
       ap (λ k. (call_of h worker session k).session) at));
       roots = (λ request at told.
-      (held_out (held_now h session ≡ Some contract) h (record { worker = worker; session = session; kind = kind.Roots }) (open_now h session) (roots_fault h request) _ a made
-      (λ c opened fine revised. revised_owns accepts Signs h room _ session contract c (roots_payment request) _ _ _ [] (roots_said c request) _ a made sound opened revised some named) told some,
+      let call : Call = record { worker = worker; session = session; kind = kind.Roots } in
+      (held_out (held_now h session ≡ Some contract) h call (open_now h session) (roots_fault h request)
+      (λ c b. IsRevised accepts Signs h room call c.id c.renter_key (paid_revision c (roots_payment request) c.newest.size c.newest.root) request.signature [] (roots_said c request) no_work b) a made
+      (λ c opened fine revised. revised_owns accepts Signs h room call session contract c (roots_payment request) c.newest.size c.newest.root request.signature [] (roots_said c request) no_work a made sound opened revised some named) told some,
       ap (λ k. (call_of h worker session k).session) at));
       renewed = (λ tx renter at signed. let fits = subst IsTyped at typed in
       (renewed_gives (Owns h session contract) accepts Signs h room worker session tx renter a made

@@ -1,5 +1,5 @@
 -- A renewal that a host keeps follows on what it knew.
-use Rattle.std.proofs.Common.{◌≡◌, ◌∙◌, ℕ, Bool, true, false, not, ◌&&◌, ◌==◌, List, [], ◌∷◌, ◌++◌, All, length, take, Option, Some, None, MatchOption, Result, Ok, Err, refl, sym, ap, subst}
+use Rattle.std.proofs.Common.{◌≡◌, ◌∙◌, ◌-◌, ℕ, Bool, true, false, not, ◌&&◌, ◌==◌, List, [], ◌∷◌, ◌++◌, All, length, take, Option, Some, None, MatchOption, Result, Ok, Err, refl, sym, ap, subst}
 use Rattle.std.specs.Option.{is_none, option_map_or}
 use Rattle.std.proofs.Math.Seq.{take-append_seam}
 use Rattle.std.proofs.lemmas.List.Elements.{All-head}
@@ -148,15 +148,15 @@ only_named h session limit tx fits r stored =
     let said = renew_says tx r.old.newest (settings_now h) r.collateral r.answered in
     let found = clears_by r.old.newest tx.revisions said.clears in
     let own : (clearing r.old.newest).parent ≡ r.old.id = same_parent r.old.newest ∙ stored.parent in
-    (found.only, (found.one, same_named found.only (clearing r.old.newest) (named_by limit tx found.only fits found.one) (ap length own ∙ stored.id) found.spelled ∙ own))
+    (found.only, found.one, same_named found.only (clearing r.old.newest) (named_by limit tx found.only fits found.one) (ap length own ∙ stored.id) found.spelled ∙ own)
 
 -- so the whole renewal follows
 whole_named : (accepts : List ℕ → List ℕ → List ℕ → Bool) (h : Host) (session limit : ℕ) (tx whole : Transaction) → transaction.fits limit tx → whole.revisions ≡ tx.revisions
     → (r : Renews h session tx) → IsStored h.settings.sector h.settings.host_key r.old → renews_contract accepts h whole r.old ≡ true → renewed_replays accepts h whole whole.revisions ≡ true
 whole_named accepts h session limit tx whole fits same r stored follows =
     let found = only_named h session limit tx fits r stored in
-    let there : contract_among found.0.parent h.state.contracts ≡ Some r.old = ap (λ id. contract_among id h.state.contracts) found.1.1 ∙ opened_among h session r.old r.opened in
-    ap (renewed_replays accepts h whole) (same ∙ found.1.0) ∙ (ap (λ old. option_map_or (renews_contract accepts h whole) old false) there ∙ follows)
+    let there : contract_among found.0.parent h.state.contracts ≡ Some r.old = ap (λ id. contract_among id h.state.contracts) found.2 ∙ opened_among h session r.old r.opened in
+    ap (renewed_replays accepts h whole) (same ∙ found.1) ∙ (ap (λ old. option_map_or (renews_contract accepts h whole) old false) there ∙ follows)
 
 -- the whole transaction has the revisions of the proposal
 pub whole_revisions : (tx : Transaction) (added : Additions) (renter host : List Signature) → (finished tx added renter host).revisions ≡ tx.revisions

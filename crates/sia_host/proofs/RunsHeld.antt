@@ -87,10 +87,10 @@ keeps_out : (accepts : List ℕ → List ℕ → List ℕ → Bool) (Signs : Lis
     → Agree (live h) → is_among contract h.state.contracts ≡ true → held_now h session ≡ Some contract → IsRun accepts Signs h (move ∷ later) → KeepsOut session contract move
 keeps_out accepts Signs h move later session contract agree known holds run =
     let holder : holder_now h contract ≡ Some session = agree session contract holds in
-    let answer = run.1.1.0 in
+    let answer = run.2 in
     record {
       own = (λ made some named.
-      let own = record_held accepts Signs h move.room move.worker move.session move.command move.reaction made contract run.0 run.1.0 known answer some named in
+      let own = record_held accepts Signs h move.room move.worker move.session move.command move.reaction made contract run.0 run.1 known answer some named in
       noted_by move.reaction.made move.reaction.event made some (of_answer accepts Signs h move.room move.worker move.session move.command move.reaction answer)
       (own.1 ∙ one move.session (agree move.session contract own.0) holder));
       told = (λ event noted locks named fine. lock_told accepts Signs h move.room move.worker move.session move.command move.reaction event session contract holder answer noted locks named fine);
@@ -116,25 +116,25 @@ all_kept_out : (accepts : List ℕ → List ℕ → List ℕ → Bool) (Signs : 
     → Agree (live h) → is_among contract h.state.contracts ≡ true → held_now h session ≡ Some contract → IsRun accepts Signs h later → list_any (gives_up_in session) later ≡ false → All (KeepsOut session contract) later
 all_kept_out accepts Signs h [] session contract agree known holds run keeps = All-nil (KeepsOut session contract)
 all_kept_out accepts Signs h (move ∷ later) session contract agree known holds run keeps =
-    let moves = moves_so h move run.1.1.1.0 in
-    let may = λ (event : Event) (noted : move.reaction.event ≡ Some event). allowed accepts Signs h move.room move.worker move.session move.command move.reaction event run.1.1.0 noted in
+    let moves = moves_so h move run.3 in
+    let may = λ (event : Event) (noted : move.reaction.event ≡ Some event). allowed accepts Signs h move.room move.worker move.session move.command move.reaction event run.2 noted in
     let off = both_off (gives_up_in session move) (list_any (gives_up_in session) later) keeps in
     All-cons (KeepsOut session contract) move later (keeps_out accepts Signs h move later session contract agree known holds run)
-    (all_kept_out accepts Signs move.after later session contract (agree_after h move moves may agree) (moves.contracts contract known) (held_after h move session contract moves may off.0 holds) run.1.1.1.1 off.1)
+    (all_kept_out accepts Signs move.after later session contract (agree_after h move moves may agree) (moves.contracts contract known) (held_after h move session contract moves may off.0 holds) run.4 off.1)
 
 -- from where sessions agree with holders on, through the moves before a lock is acquired, and from then on
 pub locks_kept : (accepts : List ℕ → List ℕ → List ℕ → Bool) (Signs : List ℕ → List ℕ → Type 0) (h : Host) (before : List Move) (move : Move) (later : List Move) (event : Event) (contract : List ℕ)
     → Agree (live h) → IsRun accepts Signs h (before ++ move ∷ later) → move.reaction.event ≡ Some event → acquires contract event ≡ true → list_any (gives_up_in event.session) later ≡ false
     → All (KeepsOut event.session contract) later
 locks_kept accepts Signs h [] move later event contract agree run noted is keeps =
-    let moves = moves_so h move run.1.1.1.0 in
-    let may = λ (e : Event) (at : move.reaction.event ≡ Some e). allowed accepts Signs h move.room move.worker move.session move.command move.reaction e run.1.1.0 at in
+    let moves = moves_so h move run.3 in
+    let may = λ (e : Event) (at : move.reaction.event ≡ Some e). allowed accepts Signs h move.room move.worker move.session move.command move.reaction e run.2 at in
     let got = acquired_after h move event contract moves (may event noted) noted is in
-    all_kept_out accepts Signs move.after later event.session contract (agree_after h move moves may agree) got.0 got.1 run.1.1.1.1 keeps
+    all_kept_out accepts Signs move.after later event.session contract (agree_after h move moves may agree) got.0 got.1 run.4 keeps
 locks_kept accepts Signs h (first ∷ before) move later event contract agree run noted is keeps =
-    let moves = moves_so h first run.1.1.1.0 in
-    let may = λ (e : Event) (at : first.reaction.event ≡ Some e). allowed accepts Signs h first.room first.worker first.session first.command first.reaction e run.1.1.0 at in
-    locks_kept accepts Signs first.after before move later event contract (agree_after h first moves may agree) run.1.1.1.1 noted is keeps
+    let moves = moves_so h first run.3 in
+    let may = λ (e : Event) (at : first.reaction.event ≡ Some e). allowed accepts Signs h first.room first.worker first.session first.command first.reaction e run.2 at in
+    locks_kept accepts Signs first.after before move later event contract (agree_after h first moves may agree) run.4 noted is keeps
 
 -- a host without an event has no session
 pub none_hold : (h : Host) → h.events ≡ [] → Agree (live h)

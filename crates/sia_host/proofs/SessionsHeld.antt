@@ -257,7 +257,7 @@ ended_agree y ss agree x c is = by (y == x) refl
 pub agree_by : (contracts : List Kept) (done : Effect) (y : ℕ) (challenge : List ℕ) (contract : Option (List ℕ)) (ss : List Session) → Allowed contracts done y contract ss → Agree ss → Agree (sessions_by done y challenge contract ss)
 agree_by contracts effect.Begins y challenge contract ss allowed agree = (λ x c is. begun_holder c y challenge ss ∙ agree x c (sym (begun_held x y challenge ss) ∙ is))
 agree_by contracts effect.Acquires y challenge None ss allowed agree = elim allowed [ ]
-agree_by contracts effect.Acquires y challenge (Some d) ss allowed agree = acquired_agree y challenge d ss allowed.1.0 allowed.1.1.1 agree
+agree_by contracts effect.Acquires y challenge (Some d) ss allowed agree = acquired_agree y challenge d ss allowed.1 allowed.3 agree
 agree_by contracts effect.AsksAnew y challenge contract ss allowed agree =
     (λ x c is. asked_holder c y (session_changed effect.AsksAnew challenge contract) (λ s. refl) (λ s. refl) ss ∙ agree x c (sym (asked_held y x (session_changed effect.AsksAnew challenge contract) (λ s. refl) (λ s. refl) ss) ∙ is))
 agree_by contracts effect.Frees y challenge contract ss allowed agree = freed_agree y challenge contract ss agree
@@ -272,7 +272,7 @@ held_by contracts effect.Acquires y challenge None ss x c allowed keeps is = eli
 held_by contracts effect.Acquires y challenge (Some d) ss x c allowed keeps is = by (y == x) refl
   where
     by : (b : Bool) → (y == x) ≡ b → held_in x (on_session y (session_changed effect.Acquires challenge (Some d)) ss) ≡ Some c
-    by true at = absurd (no_contract (held_in x ss) c (moved (λ n. held_in n ss ≡ None) y x at allowed.1.1.0) is)
+    by true at = absurd (no_contract (held_in x ss) c (moved (λ n. held_in n ss ≡ None) y x at allowed.2) is)
     by false at = changed_other y x (session_changed effect.Acquires challenge (Some d)) (λ s. refl) at ss ∙ is
 held_by contracts effect.AsksAnew y challenge contract ss x c allowed keeps is = asked_held y x (session_changed effect.AsksAnew challenge contract) (λ s. refl) (λ s. refl) ss ∙ is
 held_by contracts effect.Frees y challenge contract ss x c allowed keeps is = changed_other y x (session_changed effect.Frees challenge contract) (λ s. refl) keeps ss ∙ is
@@ -286,7 +286,7 @@ acquired_by contracts effect.Acquires y challenge None ss c allowed is = elim al
 acquired_by contracts effect.Acquires y challenge (Some d) ss c allowed is =
     let f = session_changed effect.Acquires challenge (Some d) in
     let same : d ≡ c = same_bytes d c is in
-    (subst (λ e. is_among e contracts ≡ true) same allowed.0, changed_own y f (λ s. refl) ss ∙ own (with_number y ss) allowed.1.0 ∙ ap Some same)
+    (subst (λ e. is_among e contracts ≡ true) same allowed.0, changed_own y f (λ s. refl) ss ∙ own (with_number y ss) allowed.1 ∙ ap Some same)
   where
     own : (found : Option Session) → IsSome found → option_and_then (λ (s : Session). Some d) found ≡ Some d
     own None some = (cc)
