@@ -1,7 +1,6 @@
 -- What is asked of a due contract, and the job that is made of it.
-use Rattle.std.proofs.Common.{◌≡◌, ◌≢◌, ℕ, zero, suc, ◌+◌, ◌-◌, ◌*◌, ◌/◌, ◌<◌, ◌≤◌, ◌&&◌, Bool, true, false, List, [], ◌∷◌, All, length, map, if◌then◌else◌, Option, Some, None, IfSome, IsTrue, refl, sym, ap, ◌∙◌, subst, arith, get_or}
+use Rattle.std.proofs.Common.{◌≡◌, ◌≢◌, ℕ, zero, suc, ◌+◌, ◌*◌, ◌/◌, ◌<◌, ◌≤◌, ◌&&◌, Bool, true, false, List, [], ◌∷◌, All, length, if◌then◌else◌, Option, Some, None, IfSome, IsTrue, refl, sym, ap, ◌∙◌, subst, arith, get_or}
 use Rattle.std.specs.Prelude.{nat_le, not, ◌==◌, ◌||◌, slice_get}
-use Rattle.std.specs.List.{filter, find}
 use Rattle.std.specs.Option.{option_map, option_map_or}
 use Rattle.std.proofs.lemmas.Bool.{eqb-false, leb-true}
 use Rattle.std.proofs.lemmas.List.{length-map}
@@ -20,8 +19,8 @@ use Rattle.sia_commands.specs.OutJobs.{proof_alone, proved_by}
 use Rattle.sia_kept.specs.State.{Kept, IsStored, root_in, roots_of}
 use Rattle.sia_host.specs.declared.outbox.Due.{Due}
 use Rattle.sia_host.specs.Answered.{Host, next_height}
-use Rattle.sia_host.specs.Jobs.{due_contracts, due_job, due_job_by, in_order, is_above, is_due, is_due_by, next_after, trigger_of}
-use Rattle.sia_host.specs.Least.{is_up_to, least_by, least_with, lesser}
+use Rattle.sia_host.specs.Jobs.{due_contracts, due_job, due_job_by, is_above, is_due, is_due_by, next_after, trigger_of}
+use Rattle.sia_host.specs.Least.{is_up_to, least_by, lesser}
 use Rattle.sia_host.specs.Outbox.{due_by, due_now}
 use Rattle.sia_host.proofs.Walked.{walk_ends}
 

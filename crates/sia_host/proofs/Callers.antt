@@ -1,5 +1,5 @@
 -- The event of an answer is of the command's kind and session, and does to the session what a host may do.
-use Rattle.std.proofs.Common.{◌≡◌, ◌∙◌, ℕ, zero, suc, Bool, true, false, not, List, [], ◌∷◌, Option, Some, None, IfSome, IsSome, MatchOption, Result, Ok, Err, if◌then◌else◌, refl, sym, ap, subst}
+use Rattle.std.proofs.Common.{◌≡◌, ◌∙◌, ℕ, zero, suc, Bool, true, false, not, List, [], Option, Some, None, IsSome, MatchOption, Result, Ok, Err, refl, sym, ap, subst}
 use Rattle.std.specs.Option.{is_some, option_and_then, option_map}
 use Rattle.sia_encoding.specs.Answer.{◌>>=◌, unless}
 use Rattle.sia_encoding.specs.Firsts.{broken}
@@ -45,7 +45,7 @@ use Rattle.sia_host.specs.Forming.{FormsSigned, IsProposed, form_added, form_jud
 use Rattle.sia_host.specs.Holding.{is_refusal}
 use Rattle.sia_host.specs.Jobs.{due_contracts, next_after, stale_contracts}
 use Rattle.sia_host.specs.Locking.{lock_given, lock_judged, lock_reaction, signs_lock, unlock_given}
-use Rattle.sia_host.specs.Outbox.{asking, due_handed, due_now, stale_handed, stale_of}
+use Rattle.sia_host.specs.Outbox.{due_handed, due_now, stale_handed, stale_of}
 use Rattle.sia_host.specs.Paying.{IsHeld, IsRevised, open_now, paid_revision, revised_unless, revising_fault}
 use Rattle.sia_host.specs.Reading.{read_fault, read_payment, read_said, roots_fault, roots_payment, roots_said}
 use Rattle.sia_host.specs.Renewing.{RenewsSigned, renew_added, renew_judged, renew_unless}

@@ -1,5 +1,5 @@
 -- Who makes a record that names a known contract holds that contract, and the contract stays known.
-use Rattle.std.proofs.Common.{◌≡◌, ◌∙◌, ◌*◌, ℕ, Bool, true, false, ◌||◌, List, [], ◌∷◌, ◌++◌, find, length, Option, Some, None, Result, Ok, Err, if◌then◌else◌, refl, sym, ap, subst}
+use Rattle.std.proofs.Common.{◌≡◌, ◌∙◌, ◌*◌, ℕ, Bool, true, false, ◌||◌, List, [], ◌∷◌, ◌++◌, length, Option, Some, None, Result, Ok, Err, if◌then◌else◌, refl, sym, ap, subst}
 use Rattle.std.specs.List.{list_any}
 use Rattle.std.specs.Option.{is_some}
 use Rattle.std.specs.Str.{bytes_eq}
@@ -20,11 +20,10 @@ use Rattle.sia_records.specs.declared.host_record.HostRecord.TheVariants as reco
 use Rattle.sia_commands.specs.declared.call.Call.{Call}
 use Rattle.sia_commands.specs.declared.codes.TheConstants.{CLEARED, WRONG_STATE}
 use Rattle.sia_commands.specs.declared.command.Command.{Command}
-use Rattle.sia_commands.specs.declared.command.Command.TheVariants as command
 use Rattle.sia_commands.specs.declared.event.Kind.TheVariants as kind
 use Rattle.sia_commands.specs.declared.reply.Reply.{Reply}
 use Rattle.sia_commands.specs.declared.step.Room.{Room}
-use Rattle.sia_kept.specs.State.{Kept, IsSound, IsStored, after_renewal, changed_at, cleared_by, contract_among, contracts_after, formed_by, is_among, renewed_by, revised_contract}
+use Rattle.sia_kept.specs.State.{Kept, IsSound, after_renewal, changed_at, cleared_by, contract_among, contracts_after, formed_by, is_among, renewed_by, revised_contract}
 use Rattle.sia_kept.proofs.Apart.{among_changed, found_id, same_bytes}
 use Rattle.sia_host.specs.Answered.{Host, Reaction, Work, held_now, no_work, or_code}
 use Rattle.sia_host.specs.Answers.{IsAnswer}
@@ -93,11 +92,11 @@ unknown_named : (h : Host) (tx : Transaction) (added : Additions) (renter host :
     → bytes_eq (contract_id (finished tx added renter host) 0) contract ≡ true → ⊥
 unknown_named h tx added renter host contract known new named =
     absurd (
-      let whole = finished tx added renter host in
-      let none : is_among (contract_id whole 0) h.state.contracts ≡ false = whole_new h tx added renter host whole new refl in
-      let here : is_among contract h.state.contracts ≡ false = subst (λ id. is_among id h.state.contracts ≡ false) (same_bytes (contract_id whole 0) contract named) none in
-      let both : true ≡ false = sym known ∙ here in
-      cc)
+    let whole = finished tx added renter host in
+    let none : is_among (contract_id whole 0) h.state.contracts ≡ false = whole_new h tx added renter host whole new refl in
+    let here : is_among contract h.state.contracts ≡ false = subst (λ id. is_among id h.state.contracts ≡ false) (same_bytes (contract_id whole 0) contract named) none in
+    let both : true ≡ false = sym known ∙ here in
+    cc)
 
 -- one revision names what is named
 one_names : (contract : List ℕ) (revisions : List Revision) (only : Revision) → revisions ≡ only ∷ [] → list_any (λ (r : Revision). bytes_eq r.parent contract) revisions ≡ true → only.parent ≡ contract
@@ -126,31 +125,35 @@ pub record_held : (accepts : List ℕ → List ℕ → List ℕ → Bool) (Signs
 record_held accepts Signs h room worker session asked a made contract sound typed known is some named =
     made_by ((held_now h session ≡ Some contract) × ((call_of h worker session asked).session ≡ session)) accepts Signs h room worker session asked a made (record {
       formed = (λ request renter at signed. absurd (
-      formed_gives (λ m. names contract m ≡ true → ⊥) accepts Signs h room worker session request renter a made
-      (λ collateral added host judged new fine. unknown_named h request.transaction added renter host contract known new) signed some named));
+          formed_gives (λ m. names contract m ≡ true → ⊥) accepts Signs h room worker session request renter a made
+          (λ collateral added host judged new fine. unknown_named h request.transaction added renter host contract known new) signed some named));
       written = (λ write renter at signed.
-      let call : Call = record { worker = worker; session = session; kind = kind.WriteSign } in
-      (held_out (held_now h session ≡ Some contract) h call (open_now h session) (write_fault h room write)
-      (λ c b. IsRevised accepts Signs h room call c.id c.renter_key (written_revision h write c) renter (written_changes room write) write_signed (write_work room write c) b) a made
-      (λ c opened fine revised. revised_owns accepts Signs h room call session contract c (write_payment write.request) (h.settings.sector * length (written_roots c write)) (node_root_of (written_roots c write)) renter (written_changes room write)
-      write_signed (write_work room write c) a made sound opened revised some named) signed some,
-      ap (λ k. (call_of h worker session k).session) at));
+          let call : Call = record { worker = worker; session = session; kind = kind.WriteSign } in (
+            held_out (held_now h session ≡ Some contract) h call (open_now h session) (write_fault h room write)
+                (λ c b. IsRevised accepts Signs h room call c.id c.renter_key (written_revision h write c) renter (written_changes room write) write_signed (write_work room write c) b) a made
+                (λ c opened fine revised. revised_owns accepts Signs h room call session contract c (write_payment write.request) (h.settings.sector * length (written_roots c write)) (node_root_of (written_roots c write)) renter (written_changes room write)
+                write_signed (write_work room write c) a made sound opened revised some named) signed some,
+            ap (λ k. (call_of h worker session k).session) at,
+          ));
       read = (λ read at served.
-      let call : Call = record { worker = worker; session = session; kind = kind.Read } in
-      (held_out (held_now h session ≡ Some contract) h call (open_now h session) (read_fault h read)
-      (λ c b. IsRevised accepts Signs h room call c.id c.renter_key (paid_revision c (read_payment read.request) c.newest.size c.newest.root) read.request.signature [] (read_said read) no_work b) a made
-      (λ c opened fine revised. revised_owns accepts Signs h room call session contract c (read_payment read.request) c.newest.size c.newest.root read.request.signature [] (read_said read) no_work a made sound opened revised some named) served some,
-      ap (λ k. (call_of h worker session k).session) at));
+          let call : Call = record { worker = worker; session = session; kind = kind.Read } in (
+            held_out (held_now h session ≡ Some contract) h call (open_now h session) (read_fault h read)
+                (λ c b. IsRevised accepts Signs h room call c.id c.renter_key (paid_revision c (read_payment read.request) c.newest.size c.newest.root) read.request.signature [] (read_said read) no_work b) a made
+                (λ c opened fine revised. revised_owns accepts Signs h room call session contract c (read_payment read.request) c.newest.size c.newest.root read.request.signature [] (read_said read) no_work a made sound opened revised some named) served some,
+            ap (λ k. (call_of h worker session k).session) at,
+          ));
       roots = (λ request at told.
-      let call : Call = record { worker = worker; session = session; kind = kind.Roots } in
-      (held_out (held_now h session ≡ Some contract) h call (open_now h session) (roots_fault h request)
-      (λ c b. IsRevised accepts Signs h room call c.id c.renter_key (paid_revision c (roots_payment request) c.newest.size c.newest.root) request.signature [] (roots_said c request) no_work b) a made
-      (λ c opened fine revised. revised_owns accepts Signs h room call session contract c (roots_payment request) c.newest.size c.newest.root request.signature [] (roots_said c request) no_work a made sound opened revised some named) told some,
-      ap (λ k. (call_of h worker session k).session) at));
-      renewed = (λ tx renter at signed. let fits = subst IsTyped at typed in
-      (renewed_gives (Owns h session contract) accepts Signs h room worker session tx renter a made
-      (λ r added host new fine. renewed_owns h session fits.0 tx contract r added renter host sound fits.1 known new) signed some named,
-      ap (λ k. (call_of h worker session k).session) at));
+          let call : Call = record { worker = worker; session = session; kind = kind.Roots } in (
+            held_out (held_now h session ≡ Some contract) h call (open_now h session) (roots_fault h request)
+                (λ c b. IsRevised accepts Signs h room call c.id c.renter_key (paid_revision c (roots_payment request) c.newest.size c.newest.root) request.signature [] (roots_said c request) no_work b) a made
+                (λ c opened fine revised. revised_owns accepts Signs h room call session contract c (roots_payment request) c.newest.size c.newest.root request.signature [] (roots_said c request) no_work a made sound opened revised some named) told some,
+            ap (λ k. (call_of h worker session k).session) at,
+          ));
+      renewed = (λ tx renter at signed. let fits = subst IsTyped at typed in (
+        renewed_gives (Owns h session contract) accepts Signs h room worker session tx renter a made
+            (λ r added host new fine. renewed_owns h session fits.0 tx contract r added renter host sound fits.1 known new) signed some named,
+        ap (λ k. (call_of h worker session k).session) at,
+      ));
       applied = (λ block at applied. absurd (applied_gives (λ m. names contract m ≡ true → ⊥) accepts h room worker block a made (λ fine no. absurd (let same : false ≡ true = no in cc)) applied some named));
       reverted = (λ at reverted. absurd (reverted_gives (λ m. names contract m ≡ true → ⊥) h room worker a made (λ fine no. absurd (let same : false ≡ true = no in cc)) reverted some named));
     }) is some

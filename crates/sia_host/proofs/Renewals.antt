@@ -1,5 +1,5 @@
 -- A renewal that isn't refused clears the contract that the session holds, and the new one stores its sectors.
-use Rattle.std.proofs.Common.{◌≡◌, ◌∙◌, ◌*◌, ◌-◌, ◌^◌, ◌≤◌, ◌==◌, ◌&&◌, ℕ, Bool, true, false, not, List, [], ◌∷◌, ◌++◌, All, length, map, Option, Some, None, Result, Ok, Err, refl, sym, subst, ap, arith}
+use Rattle.std.proofs.Common.{◌≡◌, ◌∙◌, ◌*◌, ◌-◌, ◌^◌, ◌≤◌, ◌&&◌, ℕ, Bool, true, false, List, [], ◌∷◌, All, length, map, Option, Some, None, Result, Ok, Err, refl, sym, subst, ap, arith}
 use Rattle.std.specs.Prelude.{IfOk, IsSome}
 use Rattle.std.proofs.lemmas.List.Elements.{All-cons, All-nil}
 use Rattle.std.proofs.Math.Nat.{mul-zero}
@@ -25,11 +25,11 @@ use Rattle.sia_kept.specs.State.{Kept, IsSound, IsStored, after_renewal, cleared
 use Rattle.sia_kept.proofs.Cleared.{cleared_alone}
 use Rattle.sia_kept.proofs.Sound.{PassesOn, found_stores, sound_renewed}
 use Rattle.sia_host.specs.Answered.{Host, held_now, or_code, settings_now}
-use Rattle.sia_host.specs.Forming.{by_terms, funded, with_additions}
+use Rattle.sia_host.specs.Forming.{by_terms, funded}
 use Rattle.sia_host.specs.Paying.{held_among, is_late, open_now, was_cleared}
 use Rattle.sia_host.specs.declared.refusal.Refusal.{Refusal}
 use Rattle.sia_host.specs.Proposals.{IsAddition, Proposes}
-use Rattle.sia_host.specs.Renewing.{renew_judged, renew_terms, renewal_terms}
+use Rattle.sia_host.specs.Renewing.{renew_judged, renewal_terms}
 use Rattle.sia_host.proofs.Opened.{opened_among}
 use Rattle.sia_host.proofs.Sound.{Begun, added_new, begins_as_asked, begun_so, length-contract_id, no_root, whole_contracts, whole_new}
 

@@ -1,6 +1,6 @@
 -- A renewal that a host keeps follows on what it knew.
-use Rattle.std.proofs.Common.{◌≡◌, ◌∙◌, ◌-◌, ℕ, Bool, true, false, not, ◌&&◌, ◌==◌, List, [], ◌∷◌, ◌++◌, All, length, take, Option, Some, None, MatchOption, Result, Ok, Err, refl, sym, ap, subst}
-use Rattle.std.specs.Option.{is_none, option_map_or}
+use Rattle.std.proofs.Common.{◌≡◌, ◌∙◌, ◌-◌, ℕ, Bool, true, false, not, ◌&&◌, ◌==◌, List, [], ◌∷◌, All, length, take, Option, Some, None, MatchOption, Result, Ok, Err, refl, sym, ap, subst}
+use Rattle.std.specs.Option.{option_map_or}
 use Rattle.std.proofs.Math.Seq.{take-append_seam}
 use Rattle.std.proofs.lemmas.List.Elements.{All-head}
 use Rattle.sia_encoding.specs.Answer.{◌>>=◌}

@@ -1,5 +1,5 @@
 -- The answers by a revision that both parties sign.
-use Rattle.std.proofs.Common.{◌≡◌, ◌∙◌, ◌+◌, ℕ, Bool, true, List, [], ◌∷◌, length, map, Some, None, Result, Ok, Err, IfOk, ap, subst, sym}
+use Rattle.std.proofs.Common.{◌≡◌, ◌∙◌, ◌+◌, ℕ, Bool, true, List, [], length, map, Some, None, Result, Ok, IfOk, ap, subst, sym}
 use Rattle.sia_diff.specs.DiffSteps.{is_fit}
 use Rattle.sia_types.specs.declared.file_contracts.Revision.{Revision}
 use Rattle.sia_range.specs.Ranges.{part_between, roots_outside}

@@ -8,12 +8,11 @@ use Rattle.sia_records.specs.declared.host_record.HostRecord.{HostRecord}
 use Rattle.sia_commands.specs.declared.event.Event.{Event}
 use Rattle.sia_kept.specs.declared.session.Session.{Session}
 use Rattle.sia_kept.specs.Sessions.{challenge_at, effect_of, live_sessions, sessions_after, sessions_from}
-use Rattle.sia_kept.specs.State.{IsSound, is_among, with_record}
+use Rattle.sia_kept.specs.State.{is_among, with_record}
 use Rattle.sia_kept.proofs.Events.{live_more}
-use Rattle.sia_host.specs.Answered.{Host, Reaction, after_answer, held_now, holder_now, state_with}
-use Rattle.sia_host.specs.Answers.{IsAnswer}
+use Rattle.sia_host.specs.Answered.{Host, after_answer, held_now, holder_now, state_with}
 use Rattle.sia_host.specs.Holding.{IsRun, KeepsOut, Move, acquires, event_session, gives_up, gives_up_in}
-use Rattle.sia_host.proofs.Callers.{AllowedIn, allowed, call_of, lock_told, of_answer, of_event}
+use Rattle.sia_host.proofs.Callers.{AllowedIn, allowed, call_of, lock_told, of_answer}
 use Rattle.sia_host.proofs.NamesHeld.{record_held, stays_known}
 use Rattle.sia_host.proofs.SessionsHeld.{Agree, acquired_by, agree_by, held_by, held_in}
 
@@ -90,9 +89,9 @@ keeps_out accepts Signs h move later session contract agree known holds run =
     let answer = run.2 in
     record {
       own = (λ made some named.
-      let own = record_held accepts Signs h move.room move.worker move.session move.command move.reaction made contract run.0 run.1 known answer some named in
-      noted_by move.reaction.made move.reaction.event made some (of_answer accepts Signs h move.room move.worker move.session move.command move.reaction answer)
-      (own.1 ∙ one move.session (agree move.session contract own.0) holder));
+          let own = record_held accepts Signs h move.room move.worker move.session move.command move.reaction made contract run.0 run.1 known answer some named in
+          noted_by move.reaction.made move.reaction.event made some (of_answer accepts Signs h move.room move.worker move.session move.command move.reaction answer)
+          (own.1 ∙ one move.session (agree move.session contract own.0) holder));
       told = (λ event noted locks named fine. lock_told accepts Signs h move.room move.worker move.session move.command move.reaction event session contract holder answer noted locks named fine);
     }
   where

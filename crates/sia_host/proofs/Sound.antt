@@ -1,5 +1,5 @@
 -- A formation that is answered with what the host adds forms a contract that isn't known, and that stores nothing.
-use Rattle.std.proofs.Common.{◌≡◌, ◌∙◌, ◌+◌, ◌*◌, ◌≤◌, ◌==◌, ◌&&◌, ℕ, Bool, true, false, not, List, [], ◌∷◌, ◌++◌, All, codes, length, Result, Ok, Err, refl, sym, subst, ap, arith}
+use Rattle.std.proofs.Common.{◌≡◌, ◌∙◌, ◌==◌, ◌&&◌, ℕ, Bool, true, false, not, List, [], ◌∷◌, All, codes, length, Result, Ok, Err, refl, sym, subst, ap, arith}
 use Rattle.std.specs.Str.{bytes_eq}
 use Rattle.std.proofs.lemmas.Bool.{eqb-true}
 use Rattle.std.proofs.lemmas.List.Elements.{All-cons, All-nil}
@@ -20,12 +20,11 @@ use Rattle.sia_forms.specs.declared.funding.Additions.{Additions}
 use Rattle.sia_forms.specs.Building.{finished}
 use Rattle.sia_forms.specs.Checks.{Asked, asked_to_form, begins_with, collateral_within, contract_answer, form_answer, has_no_other_part, host_value_of, keeps_window, one_contract, pays_parties, terms_fault}
 use Rattle.sia_forms.specs.Parties.{both_address, zero_hash}
-use Rattle.sia_commands.specs.declared.codes.TheConstants.{WRONG_STATE}
 use Rattle.sia_kept.specs.declared.session.Session.{Session}
 use Rattle.sia_kept.specs.State.{Kept, IsStored, first_revision, formed_by, is_among, new_contract}
 use Rattle.sia_kept.proofs.Apart.{same_bytes}
 use Rattle.sia_host.specs.Answered.{Host, idle_now, settings_now}
-use Rattle.sia_host.specs.Forming.{by_terms, form_judged, form_terms, funded, is_formed, with_additions}
+use Rattle.sia_host.specs.Forming.{by_terms, form_judged, funded, is_formed, with_additions}
 use Rattle.sia_host.specs.Proposals.{IsAddition}
 
 -- signatures don't name a contract

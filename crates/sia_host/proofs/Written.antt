@@ -1,5 +1,5 @@
 -- What a signed write makes of its contract's sectors, and the answer to it.
-use Rattle.std.proofs.Common.{◌≡◌, ◌∙◌, ◌+◌, ◌*◌, ◌<◌, ◌≤◌, ◌^◌, ℕ, Bool, true, false, List, [], ◌∷◌, ◌++◌, append_assoc, append-nil, length, map, Option, Some, None, Result, Ok, Err, IfOk, refl, sym, ap, subst, arith}
+use Rattle.std.proofs.Common.{◌≡◌, ◌∙◌, ◌*◌, ◌<◌, ◌≤◌, ℕ, Bool, true, false, List, [], ◌∷◌, ◌++◌, append_assoc, append-nil, length, map, Option, Some, None, Result, Ok, Err, IfOk, refl, sym, ap, subst, arith}
 use Rattle.std.specs.Prelude.{nat_lt}
 use Rattle.std.proofs.lemmas.Bool.{ltb-false}
 use Rattle.std.proofs.lemmas.List.{length-map}
@@ -12,8 +12,7 @@ use Rattle.sia_diff.proofs.Moves.{count_bound, length_after}
 use Rattle.sia_types.specs.declared.file_contracts.Revision.{Revision}
 use Rattle.sia_price.specs.Payments.{revision_with}
 use Rattle.sia_records.specs.declared.change.Change.{Change}
-use Rattle.sia_records.specs.declared.host_record.HostRecord.TheVariants as records
-use Rattle.sia_records.specs.Stored.{Stored, changes_of, step_of, stored_after}
+use Rattle.sia_records.specs.Stored.{step_of, stored_after}
 use Rattle.sia_records.specs.Writes.{Prepared, sectors_of, steps_of}
 use Rattle.sia_records.proofs.Roots.{roots_after}
 use Rattle.sia_records.proofs.Slots.{steps_again}
@@ -25,12 +24,12 @@ use Rattle.sia_commands.specs.declared.step.Room.{Room}
 use Rattle.sia_commands.specs.declared.step.Step.{Step}
 use Rattle.sia_kept.specs.State.{Kept, IsSound, IsStored, contract_among, revised_contract, root_in, roots_of}
 use Rattle.sia_kept.proofs.Sound.{found_stores}
-use Rattle.sia_host.specs.Answered.{Gives, Host, Work}
+use Rattle.sia_host.specs.Answered.{Gives, Host}
 use Rattle.sia_host.specs.Paying.{IsRevised, Payment, open_now, paid_revision, unpaid, unrefused}
-use Rattle.sia_host.specs.Writing.{IsWriteSigned, can_write, dropped, put_jobs, write_fault, write_payment, write_price, write_signed, write_work, written_changes, written_revision, written_roots}
+use Rattle.sia_host.specs.Writing.{IsWriteSigned, dropped, put_jobs, write_fault, write_payment, write_price, write_signed, write_work, written_changes, written_revision, written_roots}
 use Rattle.sia_host.proofs.Held.{follows_given}
 use Rattle.sia_host.proofs.Opened.{opened_among, unrefused_opened}
-use Rattle.sia_host.proofs.Writable.{can_be_done, fits_sectors, same_contract}
+use Rattle.sia_host.proofs.Writable.{can_be_done, fits_sectors}
 
 -- the contract that a paying revision names is the one about which the request is, and it stores what it has
 pub paid_one : (h : Host) (session : ℕ) (fault : Kept → Option ℕ) (c : Kept) (p : Payment) (size : ℕ) (root : List ℕ) (sector : ℕ) (host_key : List ℕ) → IsSound sector host_key h.state.contracts → unrefused fault (open_now h session) ≡ Ok c

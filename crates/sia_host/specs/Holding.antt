@@ -1,6 +1,6 @@
 -- What a contract's lock is for: between the event by which a session acquires it and the one by which that session gives it back or
 -- leaves, nobody else makes a record that names the contract, and nobody else acquires its lock (RHP2; siad's modules/negotiate.go).
-use Rattle.std.specs.Prelude.{◌≡◌, ℕ, Bool, true, false, List, [], ◌∷◌, ◌==◌, ◌&&◌, ◌||◌, Option, Some, None}
+use Rattle.std.specs.Prelude.{◌≡◌, ℕ, Bool, true, false, List, [], ◌∷◌, ◌==◌, ◌&&◌, ◌||◌, Some}
 use Rattle.std.specs.List.{list_any}
 use Rattle.std.specs.Option.{option_map, option_map_or}
 use Rattle.std.specs.Str.{bytes_eq}

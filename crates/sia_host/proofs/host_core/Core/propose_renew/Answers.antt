@@ -1,9 +1,8 @@
 -- The host is sound, and stays so with the renewal.
-use Rattle.std.proofs.Common.{◌≡◌, subst, sym}
+use Rattle.std.proofs.Common.{subst}
 use Rattle.sia_host.specs.Answered.{Host}
-use Rattle.sia_host.specs.Forming.{funded}
 use Rattle.sia_host.specs.Proposals.{Proposes}
-use Rattle.sia_host.specs.Renewing.{renew_judged, renew_terms}
+use Rattle.sia_host.specs.Renewing.{renew_judged}
 use Rattle.sia_host.proofs.Renewals.{proposed_sound}
 use Rattle.sia_kept.specs.State.{IsSound}
 use Rattle.sia_host.proofs.host_core.Core.propose_renew.Goals as goal

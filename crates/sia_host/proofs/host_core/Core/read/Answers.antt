@@ -1,10 +1,10 @@
 -- The read was judged, so that its parts follow, or the refusal.
-use Rattle.std.proofs.Common.{◌≡◌, ◌∙◌, [], ap, subst}
+use Rattle.std.proofs.Common.{◌≡◌, ◌∙◌, [], ap}
 use Rattle.sia_rhp.specs.declared.request_bodies.ReadRequest.{ReadRequest}
 use Rattle.sia_commands.specs.declared.call.Call.{Call}
 use Rattle.sia_commands.specs.declared.event.Kind.TheVariants as kind
 use Rattle.sia_kept.specs.State.{IsSound}
-use Rattle.sia_host.specs.Answered.{Host, no_work}
+use Rattle.sia_host.specs.Answered.{no_work}
 use Rattle.sia_host.specs.Paying.{IsRevised, open_now, paid_revision}
 use Rattle.sia_host.specs.Reading.{read_fault, read_payment, read_said}
 use Rattle.sia_host.proofs.Held.{refuses_so}

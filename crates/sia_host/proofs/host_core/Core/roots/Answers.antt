@@ -1,9 +1,9 @@
 -- The request was judged, so that the roots follow, or the refusal.
-use Rattle.std.proofs.Common.{◌≡◌, [], subst}
+use Rattle.std.proofs.Common.{[]}
 use Rattle.sia_commands.specs.declared.call.Call.{Call}
 use Rattle.sia_commands.specs.declared.event.Kind.TheVariants as kind
 use Rattle.sia_kept.specs.State.{IsSound}
-use Rattle.sia_host.specs.Answered.{Host, no_work}
+use Rattle.sia_host.specs.Answered.{no_work}
 use Rattle.sia_host.specs.Paying.{IsRevised, open_now, paid_revision}
 use Rattle.sia_host.specs.Reading.{roots_fault, roots_payment, roots_said}
 use Rattle.sia_host.proofs.Held.{refuses_so}

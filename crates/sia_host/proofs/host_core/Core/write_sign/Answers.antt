@@ -1,12 +1,8 @@
 -- The write was judged, so that what it comes to follows, or the refusal.
-use Rattle.std.proofs.Common.{◌≡◌, ◌∙◌, ◌*◌, ◌<◌, ◌^◌, ℕ, List, Some, subst, sym, ap, arith, length, map}
-use Rattle.sia_diff.specs.DiffSteps.{is_fit}
-use Rattle.sia_types.specs.declared.file_contracts.Revision.{Revision}
-use Rattle.sia_records.specs.declared.change.Change.{Change}
-use Rattle.sia_records.specs.Stored.{step_of}
+use Rattle.std.proofs.Common.{◌≡◌, ◌∙◌, subst, ap, arith}
 use Rattle.sia_commands.specs.declared.call.Call.{Call}
 use Rattle.sia_commands.specs.declared.event.Kind.TheVariants as kind
-use Rattle.sia_kept.specs.State.{IsSound, IsStored, Kept, contract_among, revised_contract}
+use Rattle.sia_kept.specs.State.{IsSound}
 use Rattle.sia_host.specs.Answered.{Host}
 use Rattle.sia_host.specs.Paying.{IsRevised, open_now}
 use Rattle.sia_host.specs.Writing.{write_fault, write_signed, write_work, written_changes, written_revision}
