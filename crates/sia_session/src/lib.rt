@@ -30,15 +30,21 @@
 //! answers, sia_edge for the count of faults, sia_types and sia_encoding for what these hold.
 #![tactic(auto)]
 
+mod asking;
 mod desk;
 mod fetching;
+mod heard;
 pub mod laws;
+mod reading;
+mod requests;
 mod serve;
 mod session;
+mod signing;
 mod state;
+mod writing;
 
 pub use desk::Desk;
 pub use fetching::{Fetched, fetch_all, sectors_changed, sectors_read};
-pub use serve::Ended;
+pub use serve::{Ended, serve_link};
 pub use session::Session;
 pub use state::{Done, Kept, Proposal, State, Taken};
