@@ -61,7 +61,10 @@ pub(crate) fn ask<Rt, K: Desk<Rt>>(
 {
     match desk.act(rt, session, command) {
         Err(stop) => Err(stop),
-        Ok(reply) => finish(alloc, &Heard::new(reply), state),
+        Ok(reply) => {
+            let heard = Heard::new(reply);
+            finish(alloc, &heard, state)
+        }
     }
 }
 

@@ -74,7 +74,10 @@ fn write_fetched<Rt, K: Desk<Rt>>(
     ensures stop { IfErr result (IsCaused K.stops desk.old desk.new) }
 {
     match fetched {
-        Fetched::Refused(reply) => finish(alloc, &Heard::new(reply), state),
+        Fetched::Refused(reply) => {
+            let heard = Heard::new(reply);
+            finish(alloc, &heard, state)
+        }
         Fetched::All(sectors) => write_sectors(alloc, rt, desk, session, request, sectors, state),
     }
 }

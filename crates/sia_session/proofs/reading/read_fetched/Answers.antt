@@ -8,7 +8,7 @@ use Rattle.sia_session.proofs.reading.read_fetched.Goals as goal
 pub returns-in-Refused-clause-acts : goal.returns-in-Refused-clause-acts
 returns-in-Refused-clause-acts g c =
     none_more (g.K.Desk.acts c.args.desk.now) (g.K.Desk.acts c.args.desk.now) (Follows (with_fetched c.args.state (read_with c.args.state c.args.session c.args.request) (fetched.Refused c.in-Refused.reply)) c.finish.result) refl
-    (rw c.new.ensures at c.finish.ensures.sends)
+    (rw c.new-heard.ensures at c.finish.ensures.sends)
 
 pub returns-in-Refused-clause-alone : goal.returns-in-Refused-clause-alone
 returns-in-Refused-clause-alone g c = alone_none g.K.Desk.stays g.K.Desk.stops g.K.Desk.sector c.args.desk.now g.met.K.Desk.stays_itself

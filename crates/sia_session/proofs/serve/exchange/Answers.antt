@@ -1,5 +1,3 @@
-use Rattle.std.proofs.Common.{◌≡◌, [], Some, None, Ok, Err, refl}
-use Rattle.sia_session.specs.declared.serve.Ended.TheVariants as ended
 use Rattle.sia_session.specs.Served.{script_for}
 use Rattle.sia_session.proofs.Exchanging.{exchanged_stop, exchanged_sent}
 use Rattle.sia_session.proofs.serve.exchange.Goals as goal

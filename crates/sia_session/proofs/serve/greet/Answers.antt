@@ -1,4 +1,4 @@
-use Rattle.std.proofs.Common.{◌^◌, List, ℕ}
+use Rattle.std.proofs.Common.{◌^◌}
 use Rattle.sia_session.specs.Served.{talk_in}
 use Rattle.sia_session.proofs.Following.{alone_none}
 use Rattle.sia_session.proofs.Serving.{greeted, greeted_some}

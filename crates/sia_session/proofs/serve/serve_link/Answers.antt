@@ -1,13 +1,12 @@
-use Rattle.std.proofs.Common.{◌^◌, List, ℕ}
-use Rattle.sia_session.proofs.Following.{alone_both, caused_later}
+use Rattle.sia_session.proofs.Following.{alone_both}
 use Rattle.sia_session.proofs.Serving.{served, not_entered}
 use Rattle.sia_session.proofs.serve.serve_link.Goals as goal
 
-pub returns-in-Err-clause-talk : goal.returns-in-Err-clause-talk
-returns-in-Err-clause-talk g c = not_entered c.args.sector c.in-Err.stop (g.L.Link.left c.args.link.now) (g.K.Desk.acts c.args.desk.now) (g.K.Desk.acts c.begin.new.desk) (g.L.Link.taken c.args.link.now) c.in-Err.ensures.acts
+pub returns-in-Err-clause-served : goal.returns-in-Err-clause-served
+returns-in-Err-clause-served g c = not_entered c.args.sector c.in-Err.stop (g.L.Link.left c.args.link.now) (g.K.Desk.acts c.args.desk.now) (g.K.Desk.acts c.begin.new.desk) (g.L.Link.taken c.args.link.now) c.in-Err.ensures.acts
 
-pub returns-in-Ok-clause-talk : goal.returns-in-Ok-clause-talk
-returns-in-Ok-clause-talk g c =
+pub returns-in-Ok-clause-served : goal.returns-in-Ok-clause-served
+returns-in-Ok-clause-served g c =
     served c.args.sector c.in-Ok.session c.in-Ok.challenge c.greet-ended.result c.greet-ended.new.session.number (g.L.Link.left c.args.link.now) (g.L.Link.left c.greet-ended.new.link) (g.K.Desk.acts c.args.desk.now) (g.K.Desk.acts c.begin.new.desk) (g.K.Desk.acts c.greet-ended.new.desk) (g.K.Desk.acts c.end.new.desk) (g.L.Link.taken c.args.link.now) (g.L.Link.taken c.greet-ended.new.link)
     c.in-Ok.ensures.acts (rw c.as_slice.ensures at c.greet-ended.ensures.talk) c.end.ensures.acts c.greet-ended.ensures.number
 
