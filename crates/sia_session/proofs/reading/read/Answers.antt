@@ -15,12 +15,12 @@ returns-in_err-wants-clause-alone g c = alone_none g.K.Desk.stays g.K.Desk.stops
 
 pub returns-in-Err-clause-acts : goal.returns-in-Err-clause-acts
 returns-in-Err-clause-acts g c =
-    let got = rw (c.as_slice-2.ensures, c.in_ok-wants.ensures, c.as_slice.ensures) at c.in-Err.ensures.acts in
+    let got = rw (c.as_slice-2.ensures.value, c.in_ok-wants.ensures, c.as_slice.ensures) at c.in-Err.ensures.acts in
     first_stopped (g.K.Desk.acts c.args.desk.now) (g.K.Desk.acts c.fetch_all.new.desk) (fetch c.args.session (sectors_read c.args.sector c.args.request.sections) []) (with_fetched c.args.state (read_with c.args.state c.args.session c.args.request)) c.in-Err.stop c.in-Err.stop got
 
 pub returns-in-Ok-clause-acts : goal.returns-in-Ok-clause-acts
 returns-in-Ok-clause-acts g c =
-    let got = rw (c.as_slice-2.ensures, c.in_ok-wants.ensures, c.as_slice.ensures) at c.in-Ok.ensures.acts in
+    let got = rw (c.as_slice-2.ensures.value, c.in_ok-wants.ensures, c.as_slice.ensures) at c.in-Ok.ensures.acts in
     both (g.K.Desk.acts c.args.desk.now) (g.K.Desk.acts c.fetch_all.new.desk) (g.K.Desk.acts c.read_fetched.new.desk) (fetch c.args.session (sectors_read c.args.sector c.args.request.sections) []) (with_fetched c.args.state (read_with c.args.state c.args.session c.args.request)) c.in-Ok.fetched c.read_fetched.result got c.read_fetched.ensures.acts
 
 pub returns-in-Ok-clause-alone : goal.returns-in-Ok-clause-alone

@@ -1,8 +1,9 @@
-use Rattle.std.proofs.Common.{refl, ap, arith, sym, ◌∙◌}
+use Rattle.std.proofs.Common.{ℕ, List, Some, refl, ap, arith, subst, sym, ◌∙◌}
 use Rattle.sia_rhp.specs.Frames.{Reader}
 use Rattle.sia_session.specs.declared.serve.Ended.TheVariants as ended
-use Rattle.sia_session.specs.Served.{ended_at}
+use Rattle.sia_session.specs.Served.{Exchanged, ended_at, script_for}
 use Rattle.sia_session.specs.Talk.{limit_of}
+use Rattle.sia_session.specs.Told.{Grows}
 use Rattle.sia_session.proofs.Following.{alone_both, alone_none}
 use Rattle.sia_session.proofs.Talking.{at_first, closes, close_fault, close_none, goes_further, goes_no_further, in_body}
 use Rattle.sia_session.proofs.serve.converse.Goals as goal
@@ -23,7 +24,8 @@ returns-in-Some-clause-talk g c =
     let one = rw c.in-Ok-Some.field-0-is at c.in-Ok-Some.ensures in
     let moves = one.moves c.loop-fault.invariant.fault in
     let here = in_body c.args.session.now c.loop-fault.session c.loop-fault.reader.limit c.loop-fault.reader.room c.next.new.self.room c.in-Ok-Some.body (g.L.Link.left c.args.link.now) (g.L.Link.left c.loop-fault.link) (g.L.Link.left c.next.new.link) (g.K.Desk.acts c.args.desk.now) (g.K.Desk.acts c.loop-fault.desk) (g.L.Link.taken c.args.link.now) (g.L.Link.taken c.loop-fault.link) (g.L.Link.taken c.next.new.link) c.loop-fault.invariant.so_far c.loop-fault.invariant.limit (one.bytes c.loop-fault.invariant.fault) (ap (λ (r : Reader). r.room) moves.0) one.apart in
-    goes_no_further c.args.session.now c.loop-fault.session c.exchange.new.session c.next.new.self.room c.in-Ok-Some.body (g.L.Link.left c.args.link.now) (g.L.Link.left c.next.new.link) (g.L.Link.left c.exchange.new.link) (g.K.Desk.acts c.args.desk.now) (g.K.Desk.acts c.loop-fault.desk) (g.K.Desk.acts c.exchange.new.desk) (g.L.Link.taken c.args.link.now) (g.L.Link.taken c.next.new.link) (g.L.Link.taken c.exchange.new.link) here c.in-Some.ended (rw c.as_slice.ensures at c.in-Some.ensures.acts) c.exchange.ensures.apart
+    let E : List ℕ → Type 0 = λ read. Grows (g.K.Desk.acts c.loop-fault.desk) (g.K.Desk.acts c.exchange.new.desk) (λ done. Grows (g.L.Link.taken c.next.new.link) (g.L.Link.taken c.exchange.new.link) (λ sent. Exchanged (script_for c.loop-fault.session read) c.exchange.new.session.state (Some c.in-Some.ended) done sent)) in
+    goes_no_further c.args.session.now c.loop-fault.session c.exchange.new.session c.next.new.self.room c.in-Ok-Some.body (g.L.Link.left c.args.link.now) (g.L.Link.left c.next.new.link) (g.L.Link.left c.exchange.new.link) (g.K.Desk.acts c.args.desk.now) (g.K.Desk.acts c.loop-fault.desk) (g.K.Desk.acts c.exchange.new.desk) (g.L.Link.taken c.args.link.now) (g.L.Link.taken c.next.new.link) (g.L.Link.taken c.exchange.new.link) here c.in-Some.ended (subst E c.as_slice.ensures c.in-Some.ensures.acts) c.exchange.ensures.apart
 
 pub loop-fault-init : goal.loop-fault-init
 loop-fault-init g c = record {

@@ -1,13 +1,14 @@
-use Rattle.sia_session.specs.declared.fetching.Fetched.TheVariants as fetched
-use Rattle.sia_session.specs.Script.{Follows}
-use Rattle.sia_session.specs.Talk.{with_fetched, write_with}
-use Rattle.std.proofs.Common.{refl}
-use Rattle.sia_session.proofs.Following.{alone_none, memory_caused, none_more}
+use Rattle.sia_session.specs.Replies.{spelled_reply}
+use Rattle.sia_session.specs.Talk.{sends, with_fetched, write_with}
+use Rattle.std.proofs.Common.{ap}
+use Rattle.sia_session.proofs.Answering.{quietly}
+use Rattle.sia_session.proofs.Following.{alone_none, memory_caused}
 use Rattle.sia_session.proofs.writing.write_fetched.Goals as goal
 
 pub returns-in-Refused-clause-acts : goal.returns-in-Refused-clause-acts
 returns-in-Refused-clause-acts g c =
-    none_more (g.K.Desk.acts c.args.desk.now) (g.K.Desk.acts c.args.desk.now) (Follows (with_fetched c.args.state (write_with c.args.state c.args.session c.args.request) (fetched.Refused c.in-Refused.reply)) c.finish.result) refl
+    quietly (g.K.Desk.acts c.args.desk.now) (sends (spelled_reply c.in-Refused.reply) c.args.state) (with_fetched c.args.state (write_with c.args.state c.args.session c.args.request) c.args.fetched) c.finish.result
+    (ap (with_fetched c.args.state (write_with c.args.state c.args.session c.args.request)) c.in-Refused.is)
     (rw c.new-heard.ensures at c.finish.ensures.sends)
 
 pub returns-in-Refused-clause-alone : goal.returns-in-Refused-clause-alone
