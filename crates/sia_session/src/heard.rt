@@ -67,11 +67,7 @@ impl Heard {
     pub(crate) fn after_unlock(&self, before: State) -> State
         ensures { result ≡ after_unlock before self.now }
     {
-        if self.is_said() {
-            State::Idle
-        } else {
-            before
-        }
+        if self.is_said() { State::Idle } else { before }
     }
 
     /// The state after this reply to a proposal.

@@ -32,7 +32,14 @@ pub(crate) fn write<Rt, K: Desk<Rt>>(
     ensures stop { IfErr result (IsCaused K.stops desk.old desk.new) }
 {
     if request.actions.len() as u64 > ACTIONS {
-        ask(alloc, rt, desk, session, Command::Fetch(Want::Place(u64::MAX)), state)
+        ask(
+            alloc,
+            rt,
+            desk,
+            session,
+            Command::Fetch(Want::Place(u64::MAX)),
+            state,
+        )
     } else {
         fetch_and_write(alloc, rt, desk, session, sector, request, state)
     }

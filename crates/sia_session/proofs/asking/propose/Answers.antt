@@ -1,7 +1,6 @@
 use Rattle.std.proofs.Common.{inr}
-use Rattle.sia_commands.specs.declared.command.Command.TheVariants as command
 use Rattle.sia_commands.specs.declared.reply.Reply.{Reply}
-use Rattle.sia_session.specs.Replies.{spelled_reply, after_lock, after_proposal, after_unlock}
+use Rattle.sia_session.specs.Replies.{spelled_reply, after_proposal}
 use Rattle.sia_session.specs.Talk.{sends}
 use Rattle.sia_session.proofs.Following.{asked_said, memory_caused, stopped}
 use Rattle.sia_session.proofs.asking.propose.Goals as goal

@@ -1,4 +1,3 @@
-use Rattle.std.proofs.Common.{refl}
 use Rattle.sia_session.specs.Talk.{limit_of}
 use Rattle.sia_session.proofs.Answering.{body_answered, body_refused}
 use Rattle.sia_session.proofs.Following.{alone_none, memory_caused}

@@ -4,7 +4,7 @@ use Rattle.sia_commands.specs.declared.command.Command.TheVariants as command
 use Rattle.sia_session.specs.declared.state.Kept.TheVariants as proposal
 use Rattle.sia_session.specs.Replies.{after_proposal}
 use Rattle.sia_session.specs.Script.{Follows}
-use Rattle.sia_session.specs.Talk.{asks, read_with, write_with}
+use Rattle.sia_session.specs.Talk.{asks}
 use Rattle.sia_session.proofs.Following.{alone_none, none_more}
 use Rattle.sia_session.proofs.requests.propose_form.Goals as goal
 

@@ -1,7 +1,7 @@
 use Rattle.std.proofs.Common.{[], Err, refl}
 use Rattle.std.proofs.lemmas.Result.{err_from_is_err_and}
 use Rattle.sia_session.specs.Script.{Follows, and_then}
-use Rattle.sia_session.specs.Talk.{fetch, write_with, writes, sectors_changed, with_fetched}
+use Rattle.sia_session.specs.Talk.{fetch, write_with, sectors_changed, with_fetched}
 use Rattle.sia_session.proofs.Following.{alone_both, alone_none, both, caused_second, first_stopped, none_more}
 use Rattle.sia_session.proofs.writing.fetch_and_write.Goals as goal
 

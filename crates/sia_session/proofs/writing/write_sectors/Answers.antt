@@ -1,10 +1,7 @@
 use Rattle.std.proofs.Common.{Err, refl}
 use Rattle.std.proofs.lemmas.Result.{err_from_is_err_and}
-use Rattle.sia_commands.specs.declared.command.Command.TheVariants as command
-use Rattle.sia_session.specs.declared.state.Kept.TheVariants as proposal
-use Rattle.sia_session.specs.Replies.{after_proposal}
 use Rattle.sia_session.specs.Script.{Follows}
-use Rattle.sia_session.specs.Talk.{asks, read_with, write_with}
+use Rattle.sia_session.specs.Talk.{write_with}
 use Rattle.sia_session.proofs.Following.{alone_none, none_more}
 use Rattle.sia_session.proofs.writing.write_sectors.Goals as goal
 
