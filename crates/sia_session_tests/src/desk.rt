@@ -1,16 +1,16 @@
 //! A desk with few replies.
-ghost use Rattle.std.specs.Prelude.{◌≡◌, ◌≤◌, Unit, None, IfErr};
+ghost use Rattle.std.specs.Prelude.{◌≡◌, ◌≤◌, None, Err, IfErr};
 ghost use Rattle.sia_edge.specs.Edge.{Rose};
-ghost use Rattle.sia_session.specs.Acts.{IsOfKind};
+ghost use Rattle.sia_session.specs.Acts.{IsAnswerOrCode, IsOfKind};
 
 use sia_commands::{Command, Reply, Stop, Want};
 use sia_encoding::{Blob, List};
-use sia_rhp::{Answer, LockAnswer};
+use sia_rhp::{Answer, Label, LockAnswer};
 use sia_session::Desk;
 use std::alloc::Global;
 
 /// What each session signs first.
-pub(crate) const CHALLENGE: [u8; 16] = *b"0123456789abcdef";
+const CHALLENGE: [u8; 16] = *b"0123456789abcdef";
 
 /// Formations and locks are accepted, each sector is one of 64 zero bytes, the settings are stopped, and all else is refused by code 7:
 /// but the sector at the greatest place by 9, and the end of a lock that isn't held by 4.
@@ -67,7 +67,11 @@ impl FewReplies {
         }
     }
 
-    fn lock(&mut self) -> Reply {
+    /// A lock is acquired.
+    fn lock(&mut self) -> Reply
+        ensures kind { IsAnswerOrCode Label.Lock result }
+        ensures stops { self.new.stops ≡ self.old.stops }
+    {
         self.is_locked = true;
         Reply::Said(Answer::Lock(LockAnswer {
             acquired: true,
@@ -78,7 +82,11 @@ impl FewReplies {
         }))
     }
 
-    fn unlock(&mut self) -> Reply {
+    /// It ends, if it is held.
+    fn unlock(&mut self) -> Reply
+        ensures kind { IsAnswerOrCode Label.Unlock result }
+        ensures stops { self.new.stops ≡ self.old.stops }
+    {
         if self.is_locked {
             self.is_locked = false;
             Reply::Said(Answer::Unlock)
@@ -87,7 +95,12 @@ impl FewReplies {
         }
     }
 
-    fn sector(&mut self, want: Want) -> Result<Reply, Stop> {
+    /// A sector, or none at the greatest place.
+    fn sector(&mut self, want: Want) -> Result<Reply, Stop>
+        ensures kind { IsOfKind 64 (Command.Fetch want) result }
+        ensures later { self.old.stops ≤ self.new.stops }
+        ensures cause { IfErr result (λ why. Rose self.old.stops self.new.stops) }
+    {
         if want == Want::Place(u64::MAX) {
             return Ok(Reply::Error { code: 9 });
         }
@@ -97,7 +110,12 @@ impl FewReplies {
         }
     }
 
-    fn stop(&mut self, stop: Stop) -> Result<Reply, Stop> {
+    /// A stop, which is counted.
+    fn stop(&mut self, stop: Stop) -> Result<Reply, Stop>
+        ensures stop { result ≡ Err stop }
+        ensures later { self.old.stops ≤ self.new.stops }
+        ensures cause { Rose self.old.stops self.new.stops }
+    {
         self.stops = self.stops.saturating_add(1);
         Err(stop)
     }

@@ -1,11 +1,11 @@
 //! What sessions send for the frames of a link that were spelled by hand after docs/messages.md, where a sector has 64 bytes; and what
 //! they do where a call of the link fails.
-use crate::desk::{CHALLENGE, FewReplies};
+use crate::desk::FewReplies;
 use sia_commands::Stop;
-use sia_edge::{Link, MemLink, fill_from_link};
+use sia_edge::{MemLink, fill_from_link};
 use sia_encoding::{Blob, List};
 use sia_session::{Ended, serve_link};
-use std::alloc::{AllocError, Global};
+use std::alloc::Global;
 use std::test::Fail;
 
 /// The bytes of a link and those that are sent behind the challenge, in hexadecimal digits; how the session ends, and how many bytes of
@@ -152,10 +152,32 @@ fn talk_at(place: u64) -> Talk {
     }
 }
 
+/// The frame of the challenge, in hexadecimal digits.
+const GREETING: &str = "100000000000000030313233343536373839616263646566";
+
+/// Bytes in hexadecimal digits.
+fn bytes_of(alloc: Global, digits: &str) -> Result<Blob, Fail> {
+    let bytes = hex::decode(alloc, digits)?;
+    Ok(Blob::from_slice(alloc, bytes.as_slice())?)
+}
+
+/// All that is sent in a talk.
+fn sent_in(alloc: Global, talk: Talk) -> Result<Blob, Fail> {
+    let mut sent = bytes_of(alloc, GREETING)?;
+    let answers = bytes_of(alloc, talk.sent)?;
+    sent.extend(answers.as_slice())?;
+    Ok(sent)
+}
+
+/// How many bytes a link has left, up to 32.
+fn unread_of(link: &mut MemLink) -> Result<usize, Fail> {
+    let mut rest = [0; 32];
+    Ok(fill_from_link(link, &mut rest)?)
+}
+
 /// A link that gives bytes in hexadecimal digits.
 fn link_of(alloc: Global, digits: &str, fails: &[u64]) -> Result<MemLink, Fail> {
-    let bytes = hex::decode(alloc, digits)?;
-    let given = Blob::from_slice(alloc, bytes.as_slice())?;
+    let given = bytes_of(alloc, digits)?;
     Ok(MemLink::new(alloc, given, List::from_slice(alloc, fails)?))
 }
 
@@ -166,14 +188,9 @@ fn each_talk_is_answered(rt: HostRuntime) -> Result<(), Fail> {
         let mut link = link_of(rt.alloc(), talk.given, &[])?;
         let mut desk = FewReplies::new(rt.alloc());
         let ended = serve_link(rt.alloc(), &rt, &mut desk, &mut link, 64);
-        assert_eq!(rt; ended, talk.ended, "{}", talk.name);
-        assert_eq!(rt; desk.leaves(), 1, "{}", talk.name);
-        let sent = hex::decode(rt.alloc(), talk.sent)?;
-        let (challenge, answers) = link.bytes().split_at(link.bytes().len().min(24));
-        assert_eq!(rt; &challenge[challenge.len().min(8)..], &CHALLENGE[..], "{}", talk.name);
-        assert_eq!(rt; answers, sent.as_slice(), "{}", talk.name);
-        let unread = fill_from_link(&mut link, &mut [0; 32])?;
-        assert_eq!(rt; unread, talk.unread, "{}", talk.name);
+        let is_sent = link.bytes() == sent_in(rt.alloc(), talk)?.as_slice();
+        let seen = (ended, is_sent, unread_of(&mut link)?, desk.leaves());
+        assert_eq!(rt; seen, (talk.ended, true, talk.unread, 1), "{}", talk.name);
     }
     Ok(())
 }
