@@ -1,0 +1,4 @@
+//! A host on its two disks.
+#![tactic(auto)]
+
+mod replaying;
