@@ -70,6 +70,7 @@ fn open_journal<D: Disk>(alloc: Global, disk: D, limit: u64) -> Result<Journal<D
     ensures ready { IfOk result (λ journal. IsReady D.standing journal) }
     ensures limit { IfOk result (λ journal. journal.limit ≡ limit) }
     ensures listed { IsTrue D.tells → IfOk result (λ journal. HoldsListed HEADER_SO limit (D.standing disk) (D.standing journal.disk)) }
+    ensures time { IfOk result (λ journal. TimePasses (D.standing disk) (D.standing journal.disk)) }
     ensures cause { IfErr result (λ refused. JournalCause D.tells limit (D.standing disk) (D.standing refused.1) refused.0) }
 {
     match Journal::open(alloc, disk, &HEADER, limit) {
@@ -184,6 +185,75 @@ impl<D: Disk> Book<D> {
         match book.take_in(alloc, sector, slots, check) {
             Ok(()) => Ok(book),
             Err(fault) => Err((fault, book.close())),
+        }
+    }
+
+    /// Opens a host's disks, where nothing else writes them: the host is what the records of the journal make of one that begins with this
+    /// configuration, key and seed, and there are no events. Each disk is synced first, and the journal's end is repaired. The limits and
+    /// sizes are those of an accepted configuration. The check judges the signatures in the records.
+    ///
+    /// # Errors
+    /// They hand the disks back. [`OpenFault::Disk`] only where the count of faults of one of the two rose; [`OpenFault::Damaged`] exactly by
+    /// what the disks hold, where they tell it: the journal's own damage, then the first payload that isn't replayed, then the least slot
+    /// that isn't whole on the shelf. [`OpenFault::Memory`] for want of memory.
+    pub fn open<C: SigCheck>(
+        alloc: Global,
+        config: HostConfig,
+        key: [u8; 32],
+        seed: [u8; 32],
+        disks: Disks<D>,
+        check: &C,
+    ) -> Result<Book<D>, (OpenFault, Disks<D>)>
+        requires size { (power : ℕ) × (power ≤ 16) × (config.settings.sector ≡ 64 * 2 ^ power) }
+        requires founds { genesis_refusal config.params ≡ None }
+        requires low { 17 ≤ config.journal_limit }
+        requires high { config.journal_limit ≤ 2 ^ 36 }
+        requires few { config.slots ≤ 2 ^ 20 }
+        ensures opened { IfOk result (λ book. IsOpened D.standing D.tells C.verdict config (first_host config key seed) disks book) }
+        ensures renter { renter_after result ≡ disks.renter }
+        ensures cause { IfErr result (λ refused. OpeningCause D.tells C.verdict (first_host config key seed) config (D.standing disks.journal) (D.standing refused.1.journal) (D.standing disks.shelf) (D.standing refused.1.shelf) refused.0) }
+    {
+        let Disks {
+            journal,
+            shelf,
+            renter,
+        } = disks;
+        let sector = config.settings.sector;
+        let slots = config.slots;
+        let limit = config.journal_limit;
+        let Ok(core) = first_core(alloc, config, key, seed) else {
+            return Err((
+                OpenFault::Memory,
+                Disks {
+                    journal,
+                    shelf,
+                    renter,
+                },
+            ));
+        };
+        let shelf = match open_shelf(alloc, shelf, sector, slots) {
+            Ok(shelf) => shelf,
+            Err((fault, shelf)) => {
+                return Err((
+                    fault,
+                    Disks {
+                        journal,
+                        shelf,
+                        renter,
+                    },
+                ));
+            }
+        };
+        match open_journal(alloc, journal, limit) {
+            Ok(journal) => Book::begin(alloc, core, journal, shelf, renter, sector, slots, check),
+            Err((fault, journal)) => Err((
+                fault,
+                Disks {
+                    journal,
+                    shelf: shelf.close(),
+                    renter,
+                },
+            )),
         }
     }
 }
