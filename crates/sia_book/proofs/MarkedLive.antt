@@ -35,8 +35,8 @@ marked {D} old new slot true lt either set_ kept exact =
 marked {D} old new slot false lt either set_ kept exact =
     let P : ShelfState D → Type 0 = λ s. Marked old s slot in
     let live : mark_of old.marks slot ≡ mark.Live = ⊎_elim
-      (λ free. absurd (false≢true (exact.1 (lt, λ live. let clash : mark.Free ≡ mark.Live = sym free ∙ live in cc))))
-      (λ live. live) (either slot) in
+    (λ free. absurd (false≢true (exact.1 (lt, λ live. let clash : mark.Free ≡ mark.Live = sym free ∙ live in cc))))
+    (λ live. live) (either slot) in
     subst P (sym (kept refl)) (record { disk = refl; sector = refl; count = refl; live = live; others = λ other not. refl })
 
 -- the slots so far are live, and the marks are free or live
@@ -46,9 +46,9 @@ pub live_more : {D : Type 0} (old new : ShelfState D) (live : List ℕ) (i : ℕ
 live_more old new live i m before k lt within = ⊎_elim
     (λ yes. ap (λ n. mark_of new.marks (slice_index_or live n 0)) yes.1 ∙ m.live)
     (λ no. ⊎_elim
-      (λ same. ap (mark_of new.marks) same.1 ∙ m.live)
-      (λ other. m.others (slice_index_or live k 0) other.1 ∙ before k (omega (arith, lt, no.1)) within)
-      (eqb_tells (slice_index_or live k 0) (slice_index_or live i 0)))
+    (λ same. ap (mark_of new.marks) same.1 ∙ m.live)
+    (λ other. m.others (slice_index_or live k 0) other.1 ∙ before k (omega (arith, lt, no.1)) within)
+    (eqb_tells (slice_index_or live k 0) (slice_index_or live i 0)))
     (eqb_tells k i)
 
 pub either_more : {D : Type 0} (old new : ShelfState D) (slot : ℕ) → Marked old new slot → IsFreeOrLive old.marks → IsFreeOrLive new.marks

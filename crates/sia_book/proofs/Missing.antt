@@ -31,15 +31,17 @@ module _ (sector slots end : ℕ) where
       let Least : ℕ → Type 0 = λ n. Contains (front ++ slot ∷ []) n × (Missing n ≡ true) × All_above n in
       ⊎_elim
       (λ lt.
-        let same : min least slot ≡ slot = omega (arith, lt) in
-        subst Least (sym same) (
-          last front slot, is,
-          All-push (λ s. Missing s ≡ true → slot ≤ s) front slot (λ k d within was. let above = one.2 k d within was in omega (arith, lt, above)) (λ was. omega arith),
-        ))
+      let same : min least slot ≡ slot = omega (arith, lt) in
+      subst Least (sym same) (
+        last front slot,
+        is,
+        All-push (λ s. Missing s ≡ true → slot ≤ s) front slot (λ k d within was. let above = one.2 k d within was in omega (arith, lt, above)) (λ was. omega arith),
+      ))
       (λ le.
-        let same : min least slot ≡ least = omega (arith, le) in
-        subst Least (sym same) (
-          Contains-append_left front (slot ∷ []) least one.0, one.1,
-          All-push (λ s. Missing s ≡ true → least ≤ s) front slot one.2 (λ was. le),
-        ))
+      let same : min least slot ≡ least = omega (arith, le) in
+      subst Least (sym same) (
+        Contains-append_left front (slot ∷ []) least one.0,
+        one.1,
+        All-push (λ s. Missing s ≡ true → least ≤ s) front slot one.2 (λ was. le),
+      ))
       (cases_lt slot least)

@@ -39,9 +39,9 @@ module _ {D : Type 0} (standing : D → Standing) (tells : Bool) (accepts : List
         marks = takes.marks;
         whole = takes.whole;
         made = λ told.
-          let l = listed_so told in
-          let M : Host → Type 0 = λ h. Replayed accepts h l.records book.core in
-          record { records = l.records; lists = l.lists; holds = still_holds HEADER l.records still l.holds; made = subst M is (takes.made told HEADER l.records l.holds) };
+            let l = listed_so told in
+            let M : Host → Type 0 = λ h. Replayed accepts h l.records book.core in
+            record { records = l.records; lists = l.lists; holds = still_holds HEADER l.records still l.holds; made = subst M is (takes.made told HEADER l.records l.holds) };
         shelf = subst S (sym same) quiet;
         stable = subst T (sym same) settled;
       }

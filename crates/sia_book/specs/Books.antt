@@ -139,6 +139,11 @@ TakingCause standing tells accepts sector slots old new (open_fault.Damaged at t
     IsTrue tells → (header : List ℕ) (records : List (List ℕ)) → Holds header records (standing old.journal.disk)
     → FindsMissing accepts sector slots (length (standing old.shelf.disk).seen) old.core new.core records at
 
+-- the disk that a journal's opening leaves, in the journal or handed back
+abbrev pub opened_disk : {D : Type 0} → Result (Journal D) (OpenFault × D) → D
+opened_disk (Ok journal) = journal.disk
+opened_disk (Err refused) = refused.1
+
 -- why a journal isn't opened
 abbrev pub JournalCause : Bool → ℕ → Standing → Standing → OpenFault → Type 0
 JournalCause tells limit old new open_fault.Memory = Unit {0}

@@ -3,13 +3,14 @@ ghost use Rattle.std.specs.Prelude.{◌≡◌, ℕ, ◌*◌, ◌^◌, ◌≤◌,
 ghost use Rattle.sia_edge.specs.Disk.{EachImage, IsSettled, Leaves, Quiet, TimePasses};
 ghost use Rattle.sia_ledger.specs.Genesis.{genesis_refusal};
 ghost use Rattle.sia_host.specs.Spoiling.{is_spoiled};
-ghost use Rattle.sia_journal.specs.Journal.{HoldsListed, IsReady, MidAppend, disk_of};
+ghost use Rattle.sia_journal.specs.Listed.{IsFew};
+ghost use Rattle.sia_journal.specs.Journal.{HoldsListed, IsReady, MidAppend};
 ghost use Rattle.sia_shelf.specs.Slots.{IsSectorSize};
 ghost use Rattle.sia_shelf.specs.Shelf.{mark_of};
 ghost use Rattle.std.specs.List.{All};
 ghost use Rattle.sia_kept.specs.State.{live_slots};
 ghost use Rattle.sia_book.specs.Opening.{MarksLive, is_missing};
-ghost use Rattle.sia_book.specs.Books.{BeginningCause, renter_after, MissingCause, HEADER as HEADER_SO, IsOpened, JournalCause, OpeningCause, ShelfCause, TakesIn, TakingCause, first_host, journal_after, open_fault_of, shelf_after};
+ghost use Rattle.sia_book.specs.Books.{BeginningCause, opened_disk, renter_after, MissingCause, HEADER as HEADER_SO, IsOpened, JournalCause, OpeningCause, ShelfCause, TakesIn, TakingCause, first_host, journal_after, open_fault_of, shelf_after};
 
 use crate::book::Book;
 use crate::fault::OpenFault;
@@ -28,7 +29,12 @@ use std::alloc::{AllocError, Global};
 const HEADER: [u8; 16] = *b"sia journal v1\0\0";
 
 // The host before its first record. The error is want of memory.
-fn first_core(alloc: Global, config: HostConfig, key: [u8; 32], seed: [u8; 32]) -> Result<Core, AllocError>
+fn first_core(
+    alloc: Global,
+    config: HostConfig,
+    key: [u8; 32],
+    seed: [u8; 32],
+) -> Result<Core, AllocError>
     requires size { (power : ℕ) × (power ≤ 16) × (config.settings.sector ≡ 64 * 2 ^ power) }
     requires founds { genesis_refusal config.params ≡ None }
     ensures { IfOk result (λ core. core ≡ first_host config key seed) }
@@ -70,7 +76,10 @@ fn open_journal<D: Disk>(alloc: Global, disk: D, limit: u64) -> Result<Journal<D
     ensures ready { IfOk result (λ journal. IsReady D.standing journal) }
     ensures limit { IfOk result (λ journal. journal.limit ≡ limit) }
     ensures listed { IsTrue D.tells → IfOk result (λ journal. HoldsListed HEADER_SO limit (D.standing disk) (D.standing journal.disk)) }
-    ensures time { IfOk result (λ journal. TimePasses (D.standing disk) (D.standing journal.disk)) }
+    ensures time { TimePasses (D.standing disk) (D.standing (opened_disk result)) }
+    ensures crash { IsTrue D.tells → (records : Sequence (Sequence ℕ)) (payload : Sequence ℕ) → EachImage (MidAppend HEADER_SO limit records payload) (D.standing disk)
+        → Leaves (MidAppend HEADER_SO limit records payload) (D.standing disk) (D.standing (opened_disk result)) }
+    ensures few { IsTrue D.tells → EachImage IsFew (D.standing disk) → Leaves IsFew (D.standing disk) (D.standing (opened_disk result)) }
     ensures cause { IfErr result (λ refused. JournalCause D.tells limit (D.standing disk) (D.standing refused.1) refused.0) }
 {
     match Journal::open(alloc, disk, &HEADER, limit) {
@@ -80,7 +89,12 @@ fn open_journal<D: Disk>(alloc: Global, disk: D, limit: u64) -> Result<Journal<D
 }
 
 // The shelf of a host, of which nothing is pending on the disk.
-fn open_shelf<D: Disk>(alloc: Global, disk: D, sector: u64, slots: u64) -> Result<Shelf<D>, (OpenFault, D)>
+fn open_shelf<D: Disk>(
+    alloc: Global,
+    disk: D,
+    sector: u64,
+    slots: u64,
+) -> Result<Shelf<D>, (OpenFault, D)>
     requires size { IsSectorSize sector }
     requires few { slots ≤ 2 ^ 20 }
     ensures sector { IfOk result (λ shelf. shelf.sector ≡ sector) }
@@ -102,7 +116,13 @@ fn open_shelf<D: Disk>(alloc: Global, disk: D, sector: u64, slots: u64) -> Resul
 
 impl<D: Disk> Book<D> {
     // Takes the journal's records in, and marks the slots that they name. A sector has so many bytes, and the shelf so many slots.
-    fn take_in<C: SigCheck>(&mut self, alloc: Global, sector: u64, slots: u64, check: &C) -> Result<(), OpenFault>
+    fn take_in<C: SigCheck>(
+        &mut self,
+        alloc: Global,
+        sector: u64,
+        slots: u64,
+        check: &C,
+    ) -> Result<(), OpenFault>
         requires ready { IsReady D.standing self.old.journal }
         requires settled { is_spoiled self.old.core.phase ≡ false }
         requires sector { self.old.shelf.sector ≡ sector }
@@ -211,6 +231,10 @@ impl<D: Disk> Book<D> {
         requires few { config.slots ≤ 2 ^ 20 }
         ensures opened { IfOk result (λ book. IsOpened D.standing D.tells C.verdict config (first_host config key seed) disks book) }
         ensures renter { renter_after result ≡ disks.renter }
+        ensures time { TimePasses (D.standing disks.journal) (D.standing (journal_after result)) }
+        ensures crash { IsTrue D.tells → (records : Sequence (Sequence ℕ)) (payload : Sequence ℕ) → EachImage (MidAppend HEADER_SO config.journal_limit records payload) (D.standing disks.journal)
+            → Leaves (MidAppend HEADER_SO config.journal_limit records payload) (D.standing disks.journal) (D.standing (journal_after result)) }
+        ensures none { IsTrue D.tells → EachImage IsFew (D.standing disks.journal) → Leaves IsFew (D.standing disks.journal) (D.standing (journal_after result)) }
         ensures cause { IfErr result (λ refused. OpeningCause D.tells C.verdict (first_host config key seed) config (D.standing disks.journal) (D.standing refused.1.journal) (D.standing disks.shelf) (D.standing refused.1.shelf) refused.0) }
     {
         let Disks {

@@ -25,10 +25,10 @@ loop-payload-preserved g c =
       settled = after.1;
       quiet = quiet_on c.loop-payload.invariant.quiet c.read_next.ensures.quiet;
       made = λ told header records holds.
-        let so_far = c.loop-payload.invariant.made told header records holds in
-        let now = still_holds header records c.loop-payload.invariant.quiet holds in
-        let H : List (List ℕ) → Type 0 = λ all. Holds header all (g.D.Disk.standing c.loop-payload.journal.disk) in
-        let answer = c.in_ok-read_next.ensures.next told header so_far.0 so_far.1 (subst H so_far.2 now) so_far.3 in
-        let on = read_on so_far.0 so_far.1 records c.read_next.new.place c.read_next.new.out c.in_ok-read_next.field-0 so_far.2 was answer in
-        (so_far.0 ++ c.read_next.new.out ∷ [], on.0, on.1, on.3, replayed_more accepts c.args.core.now c.loop-payload.core c.replay.new.self so_far.0 c.read_next.new.out so_far.4 next);
+          let so_far = c.loop-payload.invariant.made told header records holds in
+          let now = still_holds header records c.loop-payload.invariant.quiet holds in
+          let H : List (List ℕ) → Type 0 = λ all. Holds header all (g.D.Disk.standing c.loop-payload.journal.disk) in
+          let answer = c.in_ok-read_next.ensures.next told header so_far.0 so_far.1 (subst H so_far.2 now) so_far.3 in
+          let on = read_on so_far.0 so_far.1 records c.read_next.new.place c.read_next.new.out c.in_ok-read_next.field-0 so_far.2 was answer in
+          (so_far.0 ++ c.read_next.new.out ∷ [], on.0, on.1, on.3, replayed_more accepts c.args.core.now c.loop-payload.core c.replay.new.self so_far.0 c.read_next.new.out so_far.4 next);
     }

@@ -28,7 +28,7 @@ pub returns-clause-marks : goal.returns-clause-marks
 returns-clause-marks g c = record {
   count = c.loop-slot.invariant.count;
   are_live = λ slot there.
-    ap (mark_of c.loop-slot.shelf.marks) (sym there.2 ∙ get_or_default c.args.live.now there.0 slot 0 there.1)
-    ∙ c.loop-slot.invariant.marked there.0 (omega (arith, there.1, c.loop-slot-test.false)) there.1;
+      ap (mark_of c.loop-slot.shelf.marks) (sym there.2 ∙ get_or_default c.args.live.now there.0 slot 0 there.1)
+      ∙ c.loop-slot.invariant.marked there.0 (omega (arith, there.1, c.loop-slot-test.false)) there.1;
   are_free = c.loop-slot.invariant.others;
 }
