@@ -24,8 +24,8 @@ pub freed_more : (marks : List Mark) (slots : List ℕ) (i : ℕ) → i < length
 freed_more marks slots i is once here freed k lt within = ⊎_elim
     (λ yes. ap (λ n. mark_of (set marks (slice_index_or slots i 0) mark.Free) (slice_index_or slots n 0)) yes.1 ∙ get_or-set_same marks (slice_index_or slots i 0) mark.Free mark.Free here)
     (λ no.
-      let before : k < i = omega (arith, lt, no.1) in
-      get_or-set_other marks (slice_index_or slots i 0) (slice_index_or slots k 0) mark.Free mark.Free (λ same. once k i 0 before is same) ∙ freed k before within)
+    let before : k < i = omega (arith, lt, no.1) in
+    get_or-set_other marks (slice_index_or slots i 0) (slice_index_or slots k 0) mark.Free mark.Free (λ same. once k i 0 before is same) ∙ freed k before within)
     (eqb_tells k i)
 
 -- and the later ones are live

@@ -18,7 +18,7 @@ pub next_free : (puts : List PutJob) (free : List ℕ) (i : ℕ) (d : PutJob) �
 next_free puts free i d are lt =
     let long : length puts ≤ length free = omega (arith, ap length are, length-map puts (λ (p : PutJob). p.slot), length-take (length puts) free) in
     let here : slice_index_or free i d.slot ≡ (slice_index_or puts i d).slot =
-        sym (get_or-take (length puts) free i d.slot lt) ∙ (ap (λ l. slice_index_or l i d.slot) (sym are) ∙ get_or-map_at (λ (p : PutJob). p.slot) puts i d) in
+    sym (get_or-take (length puts) free i d.slot lt) ∙ (ap (λ l. slice_index_or l i d.slot) (sym are) ∙ get_or-map_at (λ (p : PutJob). p.slot) puts i d) in
     let next : drop i free ≡ slice_index_or free i d.slot ∷ drop (suc i) free = drop-cons free i d.slot (omega (arith, lt, long)) in
     let one : suc i ≡ i + 1 = omega arith in
     next ∙ (ap (λ s. s ∷ drop (suc i) free) here ∙ ap (λ n. (slice_index_or puts i d).slot ∷ drop n free) one)
@@ -54,7 +54,7 @@ put_free law puts marks are slot there =
     let lt : there.0 < length (take (length puts) (free_slots marks)) = omega (arith, there.1, ap length are) in
     let n : length (take (length puts) (free_slots marks)) ≡ min (length puts) (length (free_slots marks)) = length-take (length puts) (free_slots marks) in
     let at : slice_index_or (free_slots marks) there.0 slot ≡ slot =
-        sym (get_or-take (length puts) (free_slots marks) there.0 slot (omega (arith, lt, n))) ∙ (ap (λ l. slice_index_or l there.0 slot) (sym are) ∙ there.2) in
+    sym (get_or-take (length puts) (free_slots marks) there.0 slot (omega (arith, lt, n))) ∙ (ap (λ l. slice_index_or l there.0 slot) (sym are) ∙ there.2) in
     ap (mark_of marks) (sym at) ∙ are_free law (free_slots marks) marks refl there.0 slot (omega (arith, lt, n))
 
 -- a slot that was put stays so when another one is
@@ -69,7 +69,7 @@ pub all_put_more : (marks : List Mark) (puts : List PutJob) (i : ℕ) (d : PutJo
 all_put_more marks puts i d lt first put =
     let slot = (slice_index_or puts i d).slot in
     let same : (e : PutJob) → mark_of (set marks slot mark.Put) (slice_index_or puts i e).slot ≡ mark.Put = λ e.
-        ap (λ (p : PutJob). mark_of (set marks slot mark.Put) p.slot) (get_or_default puts i e d lt) ∙ get_or-set_same marks slot mark.Put mark.Free first.there in
+    ap (λ (p : PutJob). mark_of (set marks slot mark.Put) p.slot) (get_or_default puts i e d lt) ∙ get_or-set_same marks slot mark.Put mark.Free first.there in
     All-more (λ (p : PutJob). mark_of (set marks slot mark.Put) p.slot ≡ mark.Put) puts i d lt (λ k e lk. put_more marks slot (slice_index_or (take i puts) k e).slot first.free (put k e lk)) (same d)
 
 -- a slot of a sector is one of the slots
@@ -98,8 +98,8 @@ pub marks_put : (old marks : List Mark) (puts : List PutJob) → length marks �
 marks_put old marks puts count put others = record {
   count = length-map marks settled ∙ count;
   put = λ slot there.
-    let d : PutJob = record { slot = 0; bytes = [] } in
-    let at = slot_of puts slot d there in
-    get_or-map_at settled marks slot mark.Free ∙ ap settled (ap (mark_of marks) (sym at.1) ∙ put there.0 d at.0);
+      let d : PutJob = record { slot = 0; bytes = [] } in
+      let at = slot_of puts slot d there in
+      get_or-map_at settled marks slot mark.Free ∙ ap settled (ap (mark_of marks) (sym at.1) ∙ put there.0 d at.0);
   others = λ slot not. get_or-map_at settled marks slot mark.Free ∙ ap settled (others slot not);
 }

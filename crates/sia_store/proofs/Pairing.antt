@@ -79,11 +79,11 @@ module _ (sector : ℕ) (lies : ℕ → List ℕ) (puts : List PutJob) (old new 
   new_holds image holds put = λ slot there. ⊎_elim
       (λ was. holds slot was)
       (λ now.
-        let p = lies_put lies puts slot now in
-        let P : ℕ → List ℕ → Type 0 = λ s bytes. Has sector s bytes image in
-        let has : P p.0.slot p.0.bytes = All-contains (λ (p : PutJob). Has sector p.slot p.bytes image) puts p.0 put p.1 in
-        let Q : ℕ → Type 0 = λ s. P s p.0.bytes in
-        subst (P slot) (sym p.3) (subst Q p.2 has))
+      let p = lies_put lies puts slot now in
+      let P : ℕ → List ℕ → Type 0 = λ s bytes. Has sector s bytes image in
+      let has : P p.0.slot p.0.bytes = All-contains (λ (p : PutJob). Has sector p.slot p.bytes image) puts p.0 put p.1 in
+      let Q : ℕ → Type 0 = λ s. P s p.0.bytes in
+      subst (P slot) (sym p.3) (subst Q p.2 has))
       (from slot there)
 
   module _ (header : List ℕ) (limit : ℕ) (records : List (List ℕ)) (payload : List ℕ) where

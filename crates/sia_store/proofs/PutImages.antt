@@ -40,6 +40,6 @@ pub wrote_more : (sector : ℕ) (marks : List Mark) (puts : List PutJob) (i : �
 wrote_more sector marks puts i d old new lt free put keeps has wrote =
     All-more (λ (p : PutJob). Has sector p.slot p.bytes new) puts i d lt
     (λ k e lk.
-      let p = slice_index_or (take i puts) k e in
-      keeps p.slot p.bytes (λ same. let clash : mark.Put ≡ mark.Free = sym (put k e lk) ∙ (ap (mark_of marks) same ∙ free) in cc) (wrote k e lk))
+    let p = slice_index_or (take i puts) k e in
+    keeps p.slot p.bytes (λ same. let clash : mark.Put ≡ mark.Free = sym (put k e lk) ∙ (ap (mark_of marks) same ∙ free) in cc) (wrote k e lk))
     has

@@ -35,8 +35,8 @@ pub returns-clause-marks : goal.returns-clause-marks
 returns-clause-marks g c = record {
   count = c.loop-slot.invariant.count;
   freed = λ slot there.
-    let lt : there.0 < length c.args.slots.now = there.1 in
-    ap (mark_of c.loop-slot.shelf.marks) (sym there.2 ∙ get_or_default c.args.slots.now there.0 slot 0 lt)
-    ∙ c.loop-slot.invariant.freed there.0 (omega (arith, lt, c.loop-slot-test.false)) lt;
+      let lt : there.0 < length c.args.slots.now = there.1 in
+      ap (mark_of c.loop-slot.shelf.marks) (sym there.2 ∙ get_or_default c.args.slots.now there.0 slot 0 lt)
+      ∙ c.loop-slot.invariant.freed there.0 (omega (arith, lt, c.loop-slot-test.false)) lt;
   others = c.loop-slot.invariant.others;
 }

@@ -50,14 +50,14 @@ loop-put-preserved g c =
       others = subst D (sym m) (subst B (sym is) (others_more c.args.shelf.now.marks marks puts i x lt inv.others));
       changes = more_changed c.args.shelf.now.sector x.slot (put_slots puts) there inv.changes (subst K inv.sector c.put.ensures.changes);
       wrote = λ told.
-        let old = (g.S.Disk.standing c.loop-put.shelf.disk).seen in
-        let new = (g.S.Disk.standing c.put.new.self.disk).seen in
-        let O : ℕ → PutJob → Type 0 = λ s y. KeepsOthers s y.slot old new in
-        let W : ℕ → PutJob → Type 0 = λ s y. Has s y.slot y.bytes new in
-        let keeps = subst (O c.args.shelf.now.sector) is (subst (λ s. O s x) inv.sector (c.put.ensures.others told)) in
-        let V : List ℕ → Type 0 = λ bytes. Has c.loop-put.shelf.sector x.slot bytes new in
-        let has = subst (W c.args.shelf.now.sector) is (subst (λ s. W s x) inv.sector (subst V c.as_slice.ensures (c.in_ok-put.ensures.wrote told))) in
-        wrote_more c.args.shelf.now.sector marks puts i x old new lt free inv.marked keeps has (inv.wrote told);
+          let old = (g.S.Disk.standing c.loop-put.shelf.disk).seen in
+          let new = (g.S.Disk.standing c.put.new.self.disk).seen in
+          let O : ℕ → PutJob → Type 0 = λ s y. KeepsOthers s y.slot old new in
+          let W : ℕ → PutJob → Type 0 = λ s y. Has s y.slot y.bytes new in
+          let keeps = subst (O c.args.shelf.now.sector) is (subst (λ s. O s x) inv.sector (c.put.ensures.others told)) in
+          let V : List ℕ → Type 0 = λ bytes. Has c.loop-put.shelf.sector x.slot bytes new in
+          let has = subst (W c.args.shelf.now.sector) is (subst (λ s. W s x) inv.sector (subst V c.as_slice.ensures (c.in_ok-put.ensures.wrote told))) in
+          wrote_more c.args.shelf.now.sector marks puts i x old new lt free inv.marked keeps has (inv.wrote told);
     }
 
 pub returns-clause-marked : goal.returns-clause-marked
