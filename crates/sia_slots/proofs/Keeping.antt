@@ -103,6 +103,6 @@ keeps_once accepts h (records.Revised revision renter host done) sound once foll
         → NamedOnce (live_slots (with_record h.settings.host_key h.state (records.Revised revision renter host done)))
     by None there none = (cc)
     by (Some c) there revises = revised_once h revision renter host done c sound once there (revised_fit accepts h revision renter done c revises)
-keeps_once accepts h (records.Renewed tx) sound once follows slot =
+keeps_once accepts h (records.Renewed tx) sound once follows =
     let forms = renewed_forms accepts h tx tx.revisions follows in
-    omega (arith, once slot, renewed_pass h.settings.host_key h.state tx forms.terms forms.others sound.apart forms.is slot)
+    λ slot. omega (arith, once slot, renewed_pass h.settings.host_key h.state tx forms.terms forms.others sound.apart forms.is slot)

@@ -9,3 +9,7 @@ pub mod Keeping
 pub mod Putting
 pub mod Parted
 pub mod Working
+pub mod RevisedWorks
+pub mod FormedWorks
+pub mod Fetching
+pub mod Worked

@@ -1,5 +1,5 @@
 -- The sectors that a write puts: their slots, their sizes, and the changes that bring them.
-use Rattle.std.proofs.Common.{◌≡◌, ◌∙◌, ℕ, suc, ◌+◌, ◌≤◌, nat_eq, nat_le, ◌&&◌, Bool, true, false, List, [], ◌∷◌, ◌++◌, All, length, length-append, length-drop, length-take, map, take, refl, sym, ap, arith}
+use Rattle.std.proofs.Common.{◌≡◌, ◌∙◌, ℕ, suc, ◌+◌, ◌≤◌, nat_eq, nat_le, nat_lt, ◌%◌, ◌&&◌, Bool, true, false, List, [], ◌∷◌, ◌++◌, All, length, length-append, length-drop, length-take, map, take, refl, sym, ap, arith}
 use Rattle.std.specs.Prelude.{count_by, filter_map}
 use Rattle.std.specs.List.{flat_map, list_all}
 use Rattle.std.proofs.lemmas.Bool.{eqb-true, leb-true}
@@ -93,7 +93,7 @@ write_brings P room write enough so = brings_with P write.request.actions write.
 -- an update leaves a sector's length
 same_length : (sector offset : ℕ) (bytes old : List ℕ) → length old ≡ sector → range_fits sector offset (length bytes) ≡ true → length (updated offset bytes old) ≡ sector
 same_length sector offset bytes old size fits =
-    let within : offset + length bytes ≤ sector = leb-true _ _ (both _ _ fits).1 in
+    let within : offset + length bytes ≤ sector = leb-true (offset + length bytes) sector (both (nat_eq (offset % 64) 0 && nat_eq (length bytes % 64) 0 && nat_lt 0 (length bytes)) (nat_le (offset + length bytes) sector) fits).1 in
     simp (length-append, length-take, length-drop) (omega (arith, within, size))
 
 -- the sectors that actions put are whole where they are fit
@@ -103,8 +103,8 @@ unfolding with_sectors
 news_whole sector [] fetched fit many whole = All-nil (λ (bytes : List ℕ). length bytes ≡ sector)
 news_whole sector (actions.Append bytes ∷ others) fetched fit many whole =
     All-cons (λ (new : List ℕ). length new ≡ sector) bytes (news_with others fetched) (eqb-true _ _ (both _ _ fit).0) (news_whole sector others fetched (both _ _ fit).1 many whole)
-news_whole sector (actions.Trim count ∷ others) fetched fit many whole = news_whole sector others fetched (both _ _ fit).1 many whole
-news_whole sector (actions.Swap one other ∷ others) fetched fit many whole = news_whole sector others fetched (both _ _ fit).1 many whole
+news_whole sector (actions.Trim count ∷ others) fetched fit many whole = news_whole sector others fetched (both (action_fits sector (actions.Trim count)) (list_all (action_fits sector) others) fit).1 many whole
+news_whole sector (actions.Swap one other ∷ others) fetched fit many whole = news_whole sector others fetched (both (action_fits sector (actions.Swap one other)) (list_all (action_fits sector) others) fit).1 many whole
 news_whole sector (actions.Update place offset bytes ∷ others) [] fit many whole = let more = one_more place offset bytes others in absurd (omega arith)
 news_whole sector (actions.Update place offset bytes ∷ others) (old ∷ fetched) fit many whole =
     let size : length old ≡ sector = eqb-true _ _ (both _ _ whole).0 in

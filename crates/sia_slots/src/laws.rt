@@ -15,6 +15,12 @@ ghost use Rattle.sia_slots.specs.Work.{IsWork};
 
 use sia_edge::{SigCheck, Signer};
 
+/// What a sound host leaves to be done by an answer fits the room that the command found and what the host knows.
+pub fn answers_work<C: SigCheck, G: Signer>()
+    ensures { (key : List ℕ) (h : Host) (room : Room) (worker session : ℕ) (command : Command) (a : Reaction) → IsSound h.settings.sector h.state.contracts
+        → IsAnswer C.verdict (G.Makes key) h room worker session command a → IsWork h room a }
+{}
+
 /// The first of the free slots of a shelf are the least free slots, however large the shelf is.
 pub fn rooms_have_least()
     ensures { (h : Host) (room : Room) (n slots : ℕ) → room.free ≡ take n (free_below slots (live_slots h.state)) → HasLeast h room }
