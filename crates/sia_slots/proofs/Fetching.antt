@@ -1,5 +1,5 @@
 -- The slots that are fetched are live, and what is read fits the reply.
-use Rattle.std.proofs.Common.{◌≡◌, ◌∙◌, ℕ, zero, suc, ◌+◌, ◌*◌, ◌/◌, ◌<◌, ◌≤◌, ◌&&◌, ◌||◌, Bool, true, false, if◌then◌else◌, List, [], ◌∷◌, All, Contains, length, map, get_or, slice_get, slice_index_or, find, Option, Some, None, Result, Ok, Err, refl, sym, ap, subst, arith, ◌^◌, div-lt_iff_lt-mul, mod-lt, mul-pos, pow_pos}
+use Rattle.std.proofs.Common.{◌≡◌, ◌∙◌, ℕ, zero, suc, ◌*◌, ◌/◌, ◌<◌, ◌≤◌, ◌&&◌, ◌||◌, Bool, true, false, if◌then◌else◌, List, [], ◌∷◌, Contains, length, get_or, slice_get, find, Option, Some, None, Result, Ok, Err, refl, sym, ap, subst, arith, ◌^◌, div-lt_iff_lt-mul, mod-lt, mul-pos, pow_pos}
 use Rattle.std.specs.Option.{option_and_then, option_map}
 use Rattle.std.specs.Str.{bytes_eq}
 use Rattle.std.proofs.lemmas.List.{get_or-map, length-map}
@@ -19,13 +19,12 @@ use Rattle.sia_commands.specs.declared.reply.Reply.TheVariants as reply
 use Rattle.sia_commands.specs.declared.step.Room.{Room}
 use Rattle.sia_commands.specs.declared.want.Want.{Want}
 use Rattle.sia_commands.specs.declared.want.Want.TheVariants as wants
-use Rattle.sia_kept.specs.State.{IsSound, IsStored, Kept, contract_among, live_slots, root_in, roots_of}
-use Rattle.sia_host.specs.declared.outbox.Due.{Due}
+use Rattle.sia_kept.specs.State.{IsSound, Kept, live_slots, root_in, roots_of}
 use Rattle.sia_host.specs.Answered.{Host, Reaction, event_of, held_now, or_code}
-use Rattle.sia_host.specs.Fetching.{fetch_given, fetch_reaction, fetched_by_place, fetched_by_root, slot_wanted}
+use Rattle.sia_host.specs.Fetching.{fetch_given, fetch_reaction, slot_wanted}
 use Rattle.sia_host.specs.Jobs.{due_contracts, is_above, is_due, next_after, trigger_of}
 use Rattle.sia_host.specs.Least.{is_up_to, least_by, lesser}
-use Rattle.sia_host.specs.Outbox.{asking, due_by, due_handed, due_now, due_reaction}
+use Rattle.sia_host.specs.Outbox.{asking, due_by, due_handed, due_now, due_reaction, none_left}
 use Rattle.sia_host.specs.Paying.{open_now}
 use Rattle.sia_host.specs.Writing.{sector_slot, slot_at, slot_with}
 use Rattle.sia_host.proofs.Askings.{due_by_terms, due_has, next_is_due}
@@ -142,7 +141,7 @@ place_within trigger contract count size some leaves = (div-lt_iff_lt-mul leaves
 -- a sector has leaves
 some_leaves : (size : ℕ) → ((power : ℕ) × (power ≤ 16) × (size ≡ 64 * 2 ^ power)) → 0 < leaf_count size
 some_leaves size whole =
-    let some : 0 < 2 ^ whole.0 = pow_pos 2 whole.0 (omega arith) in
+    let some : 0 < 2 ^ whole.0 = pow_pos whole.0 in
     omega (arith, some, whole.2)
 
 -- what is handed out of a due contract is a job that lacks the bytes of a live slot
@@ -154,30 +153,20 @@ due_terms h c terms sound has some =
     subst (λ n. place < n) count (place_within (trigger_of h terms) c.id (length (roots_of c)) h.settings.sector (omega (arith, some, count)) (some_leaves h.settings.sector sound.size)) in
     has_live (due_by h c terms).slot h.state.contracts c has (slot_has c.sectors (get_or c.sectors place no_sector) (Contains-get_or c.sectors place no_sector within))
 
-due_live : (h : Host) (id : List ℕ) (first : Bool) (c : Kept) (due : Due) → IsSound h.settings.sector h.state.contracts → next_after id first (due_contracts h) ≡ Some c → due_now h c ≡ Some due
-    → Contains (live_slots h.state) due.slot × (due.asked.size ≡ h.settings.sector)
-due_live h id first c due sound next = by (terms_of h.state.chain c.id) refl
-  where
-    by : (terms : Option Terms) → terms_of h.state.chain c.id ≡ terms → option_map (due_by h c) terms ≡ Some due → Contains (live_slots h.state) due.slot × (due.asked.size ≡ h.settings.sector)
-    by None runs is = (cc)
-    by (Some terms) runs is =
-        let same : due_by h c terms ≡ due = (cc) in
-        let known = next_is_due h id first c sound.stored next in
-        let some = due_has h c terms (due_by_terms h c terms known.0 runs) known.1 in
-        (subst (λ (d : Due). Contains (live_slots h.state) d.slot) same (due_terms h c terms sound (next_has h id first c next) some.0), sym (ap (λ (d : Due). d.asked.size) same))
-
 pub due_works : (h : Host) (room : Room) (worker : ℕ) (id : List ℕ) (first : Bool) (a : Reaction) → IsSound h.settings.sector h.state.contracts → a ≡ due_reaction h worker id first → IsWork h room a
 due_works h room worker id first a sound = by (next_after id first (due_contracts h)) refl
   where
     call : Call
     call = asking worker kind.Due
 
-    handed : (c : Kept) (due : Option Due) → next_after id first (due_contracts h) ≡ Some c → due_now h c ≡ due → a ≡ due_handed h call due → IsWork h room a
-    handed c None next at is = idle h room a (due_handed h call None) refl refl is
-    handed c (Some due) next at is =
-        let live = due_live h id first c due sound next at in
-        fetches h room a (reply.Next (Some (Lacking due.asked))) (event_of h call (Some due.contract) outcome.Fine None) due.slot live.0 (λ bytes size. size ∙ sym live.1) is
+    handed : (c : Kept) (terms : Option Terms) → next_after id first (due_contracts h) ≡ Some c → terms_of h.state.chain c.id ≡ terms → a ≡ due_handed h call (option_map (due_by h c) terms) → IsWork h room a
+    handed c None next at is = idle h room a (none_left h call) refl refl is
+    handed c (Some terms) next at is =
+        let known = next_is_due h id first c sound.stored next in
+        let some = due_has h c terms (due_by_terms h c terms known.0 at) known.1 in
+        fetches h room a (reply.Next (Some (Lacking (due_by h c terms).asked))) (event_of h call (Some c.id) outcome.Fine None) (due_by h c terms).slot
+        (due_terms h c terms sound (next_has h id first c next) some.0) (λ bytes size. size) is
 
     by : (found : Option Kept) → next_after id first (due_contracts h) ≡ found → a ≡ due_handed h call (option_and_then (due_now h) found) → IsWork h room a
-    by None next is = idle h room a (due_handed h call None) refl refl is
-    by (Some c) next is = handed c (due_now h c) next refl is
+    by None next is = idle h room a (none_left h call) refl refl is
+    by (Some c) next is = handed c (terms_of h.state.chain c.id) next refl is

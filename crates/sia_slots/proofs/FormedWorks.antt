@@ -1,5 +1,5 @@
 -- What the answers that form and renew a contract, and those to the feed, leave to be done.
-use Rattle.std.proofs.Common.{◌≡◌, ◌∙◌, ℕ, zero, suc, ◌+◌, ◌≤◌, ◌&&◌, Bool, true, false, List, [], ◌∷◌, All, length, Option, Some, None, Result, Ok, Err, refl, sym, ap, subst, arith}
+use Rattle.std.proofs.Common.{◌≡◌, ◌∙◌, ℕ, zero, suc, ◌+◌, ◌&&◌, Bool, true, false, List, [], ◌∷◌, All, Option, Some, None, Result, Ok, Err, refl, sym, ap, subst}
 use Rattle.sia_encoding.specs.Answer.{◌>>=◌, unless}
 use Rattle.sia_encoding.specs.Firsts.{broken}
 use Rattle.sia_types.specs.declared.block.Block.{Block}
@@ -13,12 +13,10 @@ use Rattle.sia_rules.specs.declared.fault.BlockFault.{BlockFault}
 use Rattle.sia_ledger.specs.Chain.{height}
 use Rattle.sia_ledger.specs.Refusal.{refusal, set_refusal}
 use Rattle.sia_forms.specs.declared.fault.FormFault.{FormFault}
-use Rattle.sia_forms.specs.declared.funding.Additions.{Additions}
 use Rattle.sia_forms.specs.Building.{finished}
 use Rattle.sia_forms.specs.Checks.{asked_to_renew, contract_answer, has_no_other_part, is_cleared, one_contract, renew_answer}
 use Rattle.sia_records.specs.declared.host_record.HostRecord.{HostRecord}
 use Rattle.sia_records.specs.declared.host_record.HostRecord.TheVariants as records
-use Rattle.sia_records.specs.Stored.{Stored}
 use Rattle.sia_commands.specs.declared.call.Call.{Call}
 use Rattle.sia_commands.specs.declared.codes.TheConstants.{STORE_FULL, TOO_LATE}
 use Rattle.sia_commands.specs.declared.event.Kind.TheVariants as kind
@@ -28,7 +26,7 @@ use Rattle.sia_commands.specs.declared.reply.Reply.TheVariants as reply
 use Rattle.sia_commands.specs.declared.step.Room.{Room}
 use Rattle.sia_rhp.specs.declared.answer.Answer.TheVariants as answer
 use Rattle.sia_kept.specs.State.{IsSound, Kept, live_slots, with_record}
-use Rattle.sia_host.specs.Answered.{Host, Reaction, answered, event_of, framed_length, held_now, lacks_room, no_work, refused, settings_now, worked}
+use Rattle.sia_host.specs.Answered.{Host, Reaction, event_of, held_now, lacks_room, no_work, refused, settings_now, worked}
 use Rattle.sia_host.specs.Feeding.{apply_given, apply_reaction, no_session, recorded_unless, revert_given, revert_reaction}
 use Rattle.sia_host.specs.Forming.{FormsSigned, IsFormSigned, by_terms, form_judged, form_unless, funded, keeping_fault}
 use Rattle.sia_host.specs.Paying.{is_late, open_now}

@@ -1,7 +1,7 @@
 -- A record that replays leaves no slot live twice.
-use Rattle.std.proofs.Common.{◌≡◌, ◌∙◌, ℕ, ◌+◌, ◌≤◌, ◌&&◌, Bool, true, false, not, List, [], ◌∷◌, length, map, take, Option, Some, None, refl, sym, ap, subst, arith, le_refl}
+use Rattle.std.proofs.Common.{◌≡◌, ◌∙◌, ℕ, ◌+◌, ◌&&◌, Bool, true, false, not, List, [], ◌∷◌, length, map, take, Option, Some, None, refl, sym, subst, arith, le_refl}
 use Rattle.std.specs.Prelude.{filter_map, nat_le}
-use Rattle.std.specs.Option.{is_none, option_map_or}
+use Rattle.std.specs.Option.{option_map_or}
 use Rattle.std.proofs.lemmas.List.{take-take}
 use Rattle.std.proofs.lemmas.Slice.Eq.{bytes_eq-Decides}
 use Rattle.sia_encoding.specs.declared.limits.TheConstants.{ACTIONS}
@@ -24,7 +24,7 @@ use Rattle.sia_host.specs.Answered.{Host}
 use Rattle.sia_host.specs.Paying.{is_late, is_low, signs_revision, was_cleared}
 use Rattle.sia_host.specs.Replaying.{changes_fit, expected, has_coins_alone, is_new, least_free, payment_in, renewed_replays, renews_contract, renews_so, replays, revises_contract, slot_taken, takes_least}
 use Rattle.sia_host.specs.Writing.{dropped}
-use Rattle.sia_slots.specs.Slots.{NamedOnce, free_below, times}
+use Rattle.sia_slots.specs.Slots.{NamedOnce, free_below}
 use Rattle.sia_slots.proofs.Once.{stays_once}
 use Rattle.sia_slots.proofs.Recorded.{block_keeps, formed_keeps, renewed_pass, revert_keeps, revised_pass}
 

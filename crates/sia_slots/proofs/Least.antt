@@ -1,5 +1,5 @@
 -- The free slots of a shelf, and how many there are at least.
-use Rattle.std.proofs.Common.{◌≡◌, ◌∙◌, inl, inr, ⊎_elim, ℕ, zero, suc, ◌+◌, ◌-◌, ◌<◌, ◌≤◌, ◌==◌, ◌||◌, Bool, true, false, not, cond, min, List, [], ◌∷◌, ◌++◌, length, take, length-take, refl, sym, ap, arith}
+use Rattle.std.proofs.Common.{◌≡◌, ◌∙◌, ⊎_elim, ℕ, ◌+◌, ◌-◌, ◌<◌, ◌≤◌, ◌==◌, ◌||◌, Bool, true, false, not, cond, min, List, [], ◌∷◌, length, take, length-take, refl, sym, ap, arith}
 use Rattle.std.specs.Prelude.{count_by}
 use Rattle.std.specs.List.{filter, list_any, range_with_len}
 use Rattle.std.proofs.lemmas.Bool.{cases_lt, eq-eqb, eqb-true}
@@ -12,7 +12,7 @@ use Rattle.sia_commands.specs.declared.step.Room.{Room}
 use Rattle.sia_kept.specs.State.{is_free_slot, live_slots}
 use Rattle.sia_host.specs.Answered.{Host}
 use Rattle.sia_host.specs.Replaying.{HasLeast, least_free}
-use Rattle.sia_slots.specs.Slots.{free_below, times}
+use Rattle.sia_slots.specs.Slots.{free_below}
 use Rattle.sia_slots.proofs.Times.{row_once}
 
 -- where one test fails at most where another passes or a third does

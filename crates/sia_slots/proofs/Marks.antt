@@ -1,9 +1,9 @@
 -- A shelf whose marks say which slots are live.
-use Rattle.std.proofs.Common.{◌≡◌, ◌∙◌, ℕ, suc, ◌+◌, ◌<◌, Bool, true, false, if◌then◌else◌, List, [], ◌∷◌, length, get_or, refl, sym, ap, arith, add-zero}
+use Rattle.std.proofs.Common.{◌≡◌, ◌∙◌, ℕ, suc, ◌+◌, ◌<◌, Bool, true, false, if◌then◌else◌, List, [], ◌∷◌, length, refl, ap, arith, add-zero}
 use Rattle.std.specs.List.{filter, range_with_len}
 use Rattle.sia_shelf.specs.declared.mark.Mark.{Mark}
 use Rattle.sia_shelf.specs.declared.mark.Mark.TheVariants as mark
-use Rattle.sia_shelf.specs.Shelf.{free_from, free_slots, is_free, mark_of}
+use Rattle.sia_shelf.specs.Shelf.{free_from, free_slots, mark_of}
 use Rattle.sia_kept.specs.State.{is_free_slot}
 use Rattle.sia_slots.specs.Slots.{free_below}
 

@@ -1,6 +1,6 @@
 -- Where slots pass, none is live twice.
-use Rattle.std.proofs.Common.{◌≡◌, ◌∙◌, ◌⊎◌, inl, inr, ℕ, zero, suc, ◌+◌, ◌<◌, ◌≤◌, Bool, true, false, List, [], ◌∷◌, All, Contains, take, refl, sym, ap, subst, arith}
-use Rattle.std.specs.List.{filter, range_with_len}
+use Rattle.std.proofs.Common.{◌≡◌, ◌⊎◌, inl, inr, ℕ, zero, suc, ◌+◌, ◌<◌, ◌≤◌, true, List, All, Contains, take, refl, sym, ap, subst, arith}
+use Rattle.std.specs.List.{range_with_len}
 use Rattle.std.proofs.lemmas.List.Elements.{All-cons, All-filter, All-nil, All-take}
 use Rattle.sia_kept.specs.State.{is_free_slot}
 use Rattle.sia_slots.specs.Slots.{NamedOnce, SlotsPass, StaysOnce, free_below, times}

@@ -18,7 +18,7 @@ use Rattle.sia_commands.specs.declared.step.Room.{Room}
 use Rattle.sia_kept.specs.State.{Kept}
 use Rattle.sia_host.specs.Answered.{Host, Reaction, Work, framed_length, held_now, lacks_room, refused, worked}
 use Rattle.sia_host.specs.Forming.{IsProposed, is_formed, keeping_fault}
-use Rattle.sia_host.specs.Paying.{IsHeld, IsRevised, revised_unless, revising_fault, signs_revision}
+use Rattle.sia_host.specs.Paying.{IsHeld, IsRevised, revised_unless, signs_revision}
 
 -- a proposal is refused, or answered by what the host adds
 pub proposed : {Goal : Type 0} (h : Host) (call : Call) (held : Option (List ℕ)) (tx : Transaction) (judged : Result ℕ ℕ) (Follows : Additions → Reaction → Type 0) (a : Reaction)

@@ -1,5 +1,5 @@
 -- The slots of a contract's sectors, change by change: those that are taken and those that are freed.
-use Rattle.std.proofs.Common.{◌≡◌, ◌∙◌, ◌⊎◌, inl, inr, ℕ, ◌+◌, ◌-◌, ◌<◌, ◌≤◌, ◌==◌, Bool, true, false, cond, nat_lt, List, [], ◌∷◌, ◌++◌, All, length, map, drop, take, get_or, set, slice_index_or, Option, Some, None, refl, sym, ap, arith}
+use Rattle.std.proofs.Common.{◌≡◌, ◌∙◌, ◌⊎◌, inl, inr, ℕ, ◌+◌, ◌-◌, ◌<◌, ◌==◌, true, cond, nat_lt, List, [], ◌∷◌, ◌++◌, All, length, map, drop, take, get_or, set, Option, refl, sym, ap, arith}
 use Rattle.std.specs.Prelude.{count_by, filter_map}
 use Rattle.std.specs.Option.{option_to_list}
 use Rattle.std.proofs.lemmas.Bool.{cases_eq, ltb-true}

@@ -1,5 +1,5 @@
 -- The sectors that a write puts: their slots, their sizes, and the changes that bring them.
-use Rattle.std.proofs.Common.{◌≡◌, ◌∙◌, ℕ, suc, ◌+◌, ◌≤◌, nat_eq, nat_le, nat_lt, ◌%◌, ◌&&◌, Bool, true, false, List, [], ◌∷◌, ◌++◌, All, length, length-append, length-drop, length-take, map, take, refl, sym, ap, arith}
+use Rattle.std.proofs.Common.{◌≡◌, ℕ, ◌+◌, ◌≤◌, nat_eq, nat_le, nat_lt, ◌%◌, ◌&&◌, true, List, [], ◌∷◌, All, length, length-append, length-drop, length-take, map, take, refl, ap, arith}
 use Rattle.std.specs.Prelude.{count_by, filter_map}
 use Rattle.std.specs.List.{flat_map, list_all}
 use Rattle.std.proofs.lemmas.Bool.{eqb-true, leb-true}

@@ -1,5 +1,5 @@
 -- The slots and the sectors that a host has after a record.
-use Rattle.std.proofs.Common.{◌≡◌, ◌∙◌, ℕ, ◌+◌, true, List, [], ◌∷◌, All, length, map, Some, sym, subst, refl}
+use Rattle.std.proofs.Common.{◌≡◌, ◌∙◌, ℕ, true, List, ◌∷◌, All, length, map, Some, sym, subst, refl}
 use Rattle.std.specs.Prelude.{filter_map}
 use Rattle.sia_types.specs.declared.block.Block.{Block}
 use Rattle.sia_types.specs.declared.file_contracts.FileContract.{FileContract}

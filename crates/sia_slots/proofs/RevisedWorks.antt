@@ -1,6 +1,5 @@
 -- What the answers that revise a contract leave to be done.
-use Rattle.std.proofs.Common.{◌≡◌, ◌∙◌, inr, ℕ, zero, suc, ◌+◌, ◌*◌, ◌/◌, ◌<◌, ◌≤◌, Bool, true, false, not, nat_lt, if◌then◌else◌, List, [], ◌∷◌, All, Contains, length, map, Option, Some, None, Result, Ok, Err, refl, sym, ap, subst, arith}
-use Rattle.std.specs.Prelude.{slice_get, find, filter_map}
+use Rattle.std.proofs.Common.{◌≡◌, ◌∙◌, inr, ℕ, ◌*◌, ◌≤◌, Bool, true, false, not, nat_lt, List, [], All, Contains, length, map, Option, Some, None, Ok, refl, ap, subst}
 use Rattle.std.proofs.lemmas.Bool.{ltb-false, not-false}
 use Rattle.std.proofs.lemmas.List.Elements.{All-contains_itself, All-nil, All-weaker}
 use Rattle.sia_encoding.specs.Firsts.{broken, ◌or_else◌}
@@ -9,12 +8,9 @@ use Rattle.sia_merkle.specs.Roots.{node_root_of}
 use Rattle.sia_diff.proofs.Counts.{left_of_and, right_of_and}
 use Rattle.sia_diff.proofs.Fit.{fit_done}
 use Rattle.sia_price.specs.Payments.{revision_with}
-use Rattle.sia_types.specs.declared.file_contracts.Revision.{Revision}
-use Rattle.sia_records.specs.declared.change.Change.{Change}
-use Rattle.sia_records.specs.declared.host_record.HostRecord.{HostRecord}
 use Rattle.sia_records.specs.declared.host_record.HostRecord.TheVariants as records
 use Rattle.sia_records.specs.Reads.{Read}
-use Rattle.sia_records.specs.Stored.{Stored, step_of}
+use Rattle.sia_records.specs.Stored.{step_of}
 use Rattle.sia_records.specs.Writes.{Prepared, is_prepared, sectors_of, steps_of}
 use Rattle.sia_records.proofs.Slots.{steps_again}
 use Rattle.sia_rhp.specs.declared.request_bodies.PaidRoots.{PaidRoots}
@@ -27,7 +23,7 @@ use Rattle.sia_commands.specs.declared.step.PutJob.{PutJob}
 use Rattle.sia_commands.specs.declared.step.Room.{Room}
 use Rattle.sia_kept.specs.State.{IsSound, IsStored, Kept, contract_among, live_slots, with_record}
 use Rattle.sia_kept.proofs.Changed.{fit_for}
-use Rattle.sia_host.specs.Answered.{Host, Reaction, Work, event_of, framed_length, held_now, no_work, refused, worked}
+use Rattle.sia_host.specs.Answered.{Host, Reaction, event_of, framed_length, held_now, no_work, refused, worked}
 use Rattle.sia_host.specs.Paying.{IsRevised, Payment, open_now, paid_revision, unpaid}
 use Rattle.sia_host.specs.Reading.{AreRoots, IsRead, read_fault, read_payment, read_said, roots_fault, roots_payment, roots_said}
 use Rattle.sia_host.specs.Writing.{IsWriteSigned, can_write, dropped, put_jobs, write_fault, write_payment, write_price, write_signed, write_work, written_changes, written_revision, written_roots}

@@ -13,7 +13,6 @@ use Rattle.sia_commands.specs.declared.reply.Reply.TheVariants as reply
 use Rattle.sia_commands.specs.declared.step.Room.{Room}
 use Rattle.sia_kept.specs.declared.session.Session.{Session}
 use Rattle.sia_kept.specs.State.{IsSound, Kept}
-use Rattle.sia_host.specs.declared.outbox.Stale.{Stale}
 use Rattle.sia_host.specs.Answered.{Host, Reaction, answered, held_now, holder_now, refused, session_now}
 use Rattle.sia_host.specs.Answers.{IsAnswer}
 use Rattle.sia_host.specs.Entering.{enter_reaction, leave_given, settings_reaction}
@@ -44,9 +43,9 @@ unlock_works : (h : Host) (room : Room) (call : Call) (held : Option (List ℕ))
 unlock_works h room call None a is = idle h room a (unlock_given h call None) refl refl is
 unlock_works h room call (Some held) a is = idle h room a (unlock_given h call (Some held)) refl refl is
 
-stale_works : (h : Host) (room : Room) (call : Call) (stale : Option Stale) (a : Reaction) → a ≡ stale_handed h call stale → IsWork h room a
+stale_works : (h : Host) (room : Room) (call : Call) (found : Option Kept) (a : Reaction) → a ≡ stale_handed h call (option_map (stale_of h) found) → IsWork h room a
 stale_works h room call None a is = idle h room a (stale_handed h call None) refl refl is
-stale_works h room call (Some stale) a is = idle h room a (stale_handed h call (Some stale)) refl refl is
+stale_works h room call (Some c) a is = idle h room a (stale_handed h call (Some (stale_of h c))) refl refl is
 
 -- a proposal leaves nothing
 proposal_works : (h : Host) (room : Room) (call : Call) (held : Option (List ℕ)) (tx : Transaction) (judged : Result ℕ ℕ) (said : Additions → Reaction) (a : Reaction)
@@ -82,5 +81,5 @@ answer_works accepts Signs h room worker session (command.RenewSign tx renter) a
 answer_works accepts Signs h room worker session command.Leave a sound is = leave_works h room (record { worker = worker; session = session; kind = kind.Leave }) (session_now h session) a is
 answer_works accepts Signs h room worker session (command.Apply block) a sound is = apply_works accepts h room worker block a is
 answer_works accepts Signs h room worker session command.Revert a sound is = revert_works h room worker a is
-answer_works accepts Signs h room worker session (command.Stale id first) a sound is = stale_works h room (asking worker kind.Stale) (option_map (stale_of h) (next_after id first (stale_contracts h))) a is
+answer_works accepts Signs h room worker session (command.Stale id first) a sound is = stale_works h room (asking worker kind.Stale) (next_after id first (stale_contracts h)) a is
 answer_works accepts Signs h room worker session (command.Due id first) a sound is = due_works h room worker id first a sound is

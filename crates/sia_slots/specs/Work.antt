@@ -1,6 +1,6 @@
 -- What an answer of a host leaves to be done with the shelf, beside what the host knew and what it knows then. Nothing of RHP2 stands
 -- here.
-use Rattle.std.specs.Prelude.{◌≡◌, ℕ, ◌≤◌, List, [], All, Contains, length, map, take, Option, Some, None}
+use Rattle.std.specs.Prelude.{◌≡◌, ℕ, ◌≤◌, List, [], All, Contains, length, map, take, Some, None}
 use Rattle.sia_records.specs.declared.host_record.HostRecord.{HostRecord}
 use Rattle.sia_commands.specs.declared.step.PutJob.{PutJob}
 use Rattle.sia_commands.specs.declared.step.Room.{Room}
