@@ -1,7 +1,6 @@
 -- What is asked of a due contract, and the job that is made of it.
-use Rattle.std.proofs.Common.{◌≡◌, ◌≢◌, ℕ, zero, suc, ◌+◌, ◌-◌, ◌*◌, ◌/◌, ◌<◌, ◌≤◌, ◌&&◌, Bool, true, false, List, [], ◌∷◌, All, length, map, if◌then◌else◌, Option, Some, None, IfSome, IsTrue, refl, sym, ap, ◌∙◌, subst, arith, get_or}
+use Rattle.std.proofs.Common.{◌≡◌, ◌≢◌, ℕ, zero, suc, ◌+◌, ◌*◌, ◌/◌, ◌<◌, ◌≤◌, ◌&&◌, Bool, true, false, List, [], ◌∷◌, All, length, if◌then◌else◌, Option, Some, None, IfSome, IsTrue, refl, sym, ap, ◌∙◌, subst, arith, get_or}
 use Rattle.std.specs.Prelude.{nat_le, not, ◌==◌, ◌||◌, slice_get}
-use Rattle.std.specs.List.{filter, find}
 use Rattle.std.specs.Option.{option_map, option_map_or}
 use Rattle.std.proofs.lemmas.Bool.{eqb-false, leb-true}
 use Rattle.std.proofs.lemmas.List.{length-map}
@@ -20,8 +19,8 @@ use Rattle.sia_commands.specs.OutJobs.{proof_alone, proved_by}
 use Rattle.sia_kept.specs.State.{Kept, IsStored, root_in, roots_of}
 use Rattle.sia_host.specs.declared.outbox.Due.{Due}
 use Rattle.sia_host.specs.Answered.{Host, next_height}
-use Rattle.sia_host.specs.Jobs.{due_contracts, due_job, due_job_by, in_order, is_above, is_due, is_due_by, next_after, trigger_of}
-use Rattle.sia_host.specs.Least.{is_up_to, least_by, least_with, lesser}
+use Rattle.sia_host.specs.Jobs.{due_contracts, due_job, due_job_by, is_above, is_due, is_due_by, next_after, trigger_of}
+use Rattle.sia_host.specs.Least.{is_up_to, least_by, lesser}
 use Rattle.sia_host.specs.Outbox.{due_by, due_now}
 use Rattle.sia_host.proofs.Walked.{walk_ends}
 
@@ -72,23 +71,23 @@ and_left true b is = refl
 and_left false b is = (cc)
 
 -- each is due where it fits, and stores what it has
-each_due : (h : Host) (p : Kept → Bool) (xs : List Kept) → All (IsStored h.settings.sector) xs → All (λ c. (is_due h c && p c) ≡ true → (is_due h c ≡ true) × IsStored h.settings.sector c) xs
-each_due h p [] all = All-nil (λ c. (is_due h c && p c) ≡ true → (is_due h c ≡ true) × IsStored h.settings.sector c)
+each_due : (h : Host) (p : Kept → Bool) (xs : List Kept) → All (IsStored h.settings.sector h.settings.host_key) xs → All (λ c. (is_due h c && p c) ≡ true → (is_due h c ≡ true) × IsStored h.settings.sector h.settings.host_key c) xs
+each_due h p [] all = All-nil (λ c. (is_due h c && p c) ≡ true → (is_due h c ≡ true) × IsStored h.settings.sector h.settings.host_key c)
 each_due h p (c ∷ cs) all =
-    All-cons (λ k. (is_due h k && p k) ≡ true → (is_due h k ≡ true) × IsStored h.settings.sector k) c cs
-    (λ fit. (and_left (is_due h c) (p c) fit, All-head (IsStored h.settings.sector) c cs all)) (each_due h p cs (All-tail (IsStored h.settings.sector) c cs all))
+    All-cons (λ k. (is_due h k && p k) ≡ true → (is_due h k ≡ true) × IsStored h.settings.sector h.settings.host_key k) c cs
+    (λ fit. (and_left (is_due h c) (p c) fit, All-head (IsStored h.settings.sector h.settings.host_key) c cs all)) (each_due h p cs (All-tail (IsStored h.settings.sector h.settings.host_key) c cs all))
 
 -- the next due contract is due, and stores what it has
-pub next_is_due : (h : Host) (id : List ℕ) (first : Bool) (c : Kept) → All (IsStored h.settings.sector) h.state.contracts → next_after id first (due_contracts h) ≡ Some c → (is_due h c ≡ true) × IsStored h.settings.sector c
+pub next_is_due : (h : Host) (id : List ℕ) (first : Bool) (c : Kept) → All (IsStored h.settings.sector h.settings.host_key) h.state.contracts → next_after id first (due_contracts h) ≡ Some c → (is_due h c ≡ true) × IsStored h.settings.sector h.settings.host_key c
 unfolding due_contracts
 next_is_due h id first c all is =
     let behind = λ (x : Kept). first || is_above x.id id in
     let least = λ (x : Kept). is_due h x && behind x in
-    least_fits (λ (x : Kept). (is_due h x ≡ true) × IsStored h.settings.sector x) (λ (x : Kept). x.id) least h.state.contracts c (each_due h behind h.state.contracts all)
+    least_fits (λ (x : Kept). (is_due h x ≡ true) × IsStored h.settings.sector h.settings.host_key x) (λ (x : Kept). x.id) least h.state.contracts c (each_due h behind h.state.contracts all)
     (walk_ends (λ (x : Kept). x.id) behind (is_due h) h.state.contracts (least_by (λ (x : Kept). x.id) least h.state.contracts) refl ∙ is)
 
 -- so it is, if there is one
-pub found_due : (h : Host) (id : List ℕ) (first : Bool) (found : Option Kept) → All (IsStored h.settings.sector) h.state.contracts → found ≡ next_after id first (due_contracts h) → IfSome found (λ c. IsTrue (is_due h c) × IsStored h.settings.sector c)
+pub found_due : (h : Host) (id : List ℕ) (first : Bool) (found : Option Kept) → All (IsStored h.settings.sector h.settings.host_key) h.state.contracts → found ≡ next_after id first (due_contracts h) → IfSome found (λ c. IsTrue (is_due h c) × IsStored h.settings.sector h.settings.host_key c)
 found_due h id first None all is = tt
 found_due h id first (Some c) all is = next_is_due h id first c all (sym is)
 
@@ -105,7 +104,7 @@ due_parts size start next e f g is = cases (size == 0) (nat_le start next) refl 
     cases false true none under is = (omega (arith, eqb-false size 0 none), leb-true start next under)
 
 -- it stores some sectors, and the chain has come to its window
-pub due_has : (h : Host) (c : Kept) (terms : Terms) → is_due_by h c terms ≡ true → IsStored h.settings.sector c → (0 < length c.sectors) × (terms.start ≤ height h.state.chain + 1)
+pub due_has : (h : Host) (c : Kept) (terms : Terms) → is_due_by h c terms ≡ true → IsStored h.settings.sector h.settings.host_key c → (0 < length c.sectors) × (terms.start ≤ height h.state.chain + 1)
 due_has h c terms due stored =
     let parts = due_parts c.newest.size terms.start (next_height h) (nat_le (next_height h) terms.end) (terms.size == c.newest.size) (bytes_eq terms.root c.newest.root) due in
     (some (length c.sectors) refl (rw stored.size at parts.0), parts.1)

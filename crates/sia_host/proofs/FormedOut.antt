@@ -17,7 +17,7 @@ use Rattle.sia_forms.specs.declared.fault.FormFault.{FormFault}
 use Rattle.sia_forms.specs.declared.fault.FormFault.TheVariants as form_fault
 use Rattle.sia_forms.specs.declared.funding.Additions.{Additions}
 use Rattle.sia_forms.specs.Building.{finished}
-use Rattle.sia_forms.specs.Checks.{asked_to_form, begins_with, collateral_within, contract_answer, form_answer, has_no_other_part, host_value_of, keeps_window, one_contract, pays_parties, terms_fault}
+use Rattle.sia_forms.specs.Checks.{Asked, asked_to_form, begins_with, collateral_within, contract_answer, form_answer, has_no_other_part, host_value_of, keeps_window, one_contract, pays_parties, terms_fault}
 use Rattle.sia_forms.specs.Parties.{both_address, zero_hash}
 use Rattle.sia_records.specs.declared.host_record.HostRecord.{HostRecord}
 use Rattle.sia_records.specs.declared.host_record.HostRecord.TheVariants as records
@@ -53,13 +53,15 @@ pub record FormedTerms (tx : Transaction) (address : List ℕ) (s : Settings) : 
   pub begins : begins_with 0 zero_hash address terms ≡ true
   pub pays : pays_parties s 0 terms.valid terms.missed ≡ true
 
-points_pass : (s : Settings) (address : List ℕ) (c : FileContract) (collateral : ℕ) → contract_answer s (asked_to_form s address) c ≡ Ok collateral → (begins_with 0 zero_hash address c ≡ true) × (pays_parties s 0 c.valid c.missed ≡ true)
+-- a contract that is answered begins with what is asked, and pays both parties
+pub points_pass : (s : Settings) (asked : Asked) (c : FileContract) (collateral : ℕ) → contract_answer s asked c ≡ Ok collateral
+    → (begins_with asked.size asked.root asked.address c ≡ true) × (pays_parties s asked.risk c.valid c.missed ≡ true)
 unfolding contract_answer terms_fault
-points_pass s address c collateral = by (begins_with 0 zero_hash address c) (pays_parties s 0 c.valid c.missed)
+points_pass s asked c collateral = by (begins_with asked.size asked.root asked.address c) (pays_parties s asked.risk c.valid c.missed)
   where
     by : (b p : Bool)
         → (unless (broken (not b) (form_fault.BadContract 1) or_else broken (not p) (form_fault.BadContract 2) or_else broken (not (keeps_window s c)) (form_fault.BadContract 3))
-        >>= (λ _. collateral_within s s.prices.contract_price (host_value_of c.valid))) ≡ Ok collateral → (b ≡ true) × (p ≡ true)
+        >>= (λ _. collateral_within s asked.least (host_value_of c.valid))) ≡ Ok collateral → (b ≡ true) × (p ≡ true)
     by true true is = (refl, refl)
     by true false is = (cc)
     by false p is = (cc)
@@ -72,7 +74,7 @@ form_says tx key s collateral = by ((length tx.revisions == 0) && has_no_other_p
         → (one_contract fit cs >>= (λ c. contract_answer s (asked_to_form s (both_address key s.host_key)) c)) ≡ Ok collateral → FormedTerms tx (both_address key s.host_key) s
     by true [] fit one is = (cc)
     by true (c ∷ []) fit one is =
-        let passed = points_pass s (both_address key s.host_key) c collateral is in
+        let passed = points_pass s (asked_to_form s (both_address key s.host_key)) c collateral is in
         record { fit = fit; terms = c; one = one; begins = passed.0; pays = passed.1 }
     by true (c ∷ other ∷ more) fit one is = (cc)
     by false cs fit one is = (cc)
@@ -90,10 +92,17 @@ judged_says h session request collateral = by (idle_now h session) (form_answer 
 all_four : (a b c d : Bool) → a ≡ true → b ≡ true → c ≡ true → d ≡ true → (a && b && c && d) ≡ true
 all_four a b c d first second third fourth = rw (first, second, third, fourth) refl
 
-both_true : (a b : Bool) → a ≡ true → b ≡ true → (a && b) ≡ true
+pub both_true : (a b : Bool) → a ≡ true → b ≡ true → (a && b) ≡ true
 both_true a b first second = rw (first, second) refl
 
--- a whole transaction that isn't known and breaks no rule follows
+-- a whole transaction whose contract isn't known and that breaks no rule is new
+pub whole_fresh : (accepts : List ℕ → List ℕ → List ℕ → Bool) (h : Host) (tx : Transaction) (added : Additions) (renter host : List Signature) (whole : Transaction) → whole ≡ finished tx added renter host
+    → is_formed h tx added ≡ false → set_refusal accepts h.state.chain whole ≡ None → is_new accepts h whole ≡ true
+whole_fresh accepts h tx added renter host whole is new sound =
+    let apart : is_among (contract_id whole 0) h.state.contracts ≡ false = whole_new h tx added renter host whole new is in
+    both_true (not (is_among (contract_id whole 0) h.state.contracts)) (is_none (set_refusal accepts h.state.chain whole)) (ap not apart) (ap is_none sound)
+
+-- such a formation follows
 whole_follows : (accepts : List ℕ → List ℕ → List ℕ → Bool) (h : Host) (key : List ℕ) (tx : Transaction) (added : Additions) (renter host : List Signature) (whole : Transaction) → whole ≡ finished tx added renter host
     → FormedTerms tx (both_address key h.settings.host_key) (settings_now h) → is_formed h tx added ≡ false → set_refusal accepts h.state.chain whole ≡ None → formed_replays accepts h key whole ≡ true
 unfolding finished
@@ -102,39 +111,47 @@ whole_follows accepts h key tx added renter host whole is said new sound =
     let others : has_coins_alone whole ≡ true = ap has_coins_alone is ∙ left_of_and (has_coins_alone tx) (length tx.signatures == 0) (right_of_and (length tx.revisions == 0) (has_no_other_part tx) said.fit) in
     let contracts : whole.contracts ≡ said.terms ∷ [] = ap (λ (t : Transaction). t.contracts) is ∙ said.one in
     let begins : begins_so h key whole.contracts ≡ true = ap (begins_so h key) contracts ∙ both_true _ _ said.begins said.pays in
-    let apart : is_among (contract_id whole 0) h.state.contracts ≡ false = whole_new h tx added renter host whole new is in
-    let fresh : is_new accepts h whole ≡ true = both_true (not (is_among (contract_id whole 0) h.state.contracts)) (is_none (set_refusal accepts h.state.chain whole)) (ap not apart) (ap is_none sound) in
+    let fresh : is_new accepts h whole ≡ true = whole_fresh accepts h tx added renter host whole is new sound in
     all_four (length whole.revisions == 0) (has_coins_alone whole) (begins_so h key whole.contracts) (is_new accepts h whole) revisions others begins fresh
 
-kept_follows : (accepts : List ℕ → List ℕ → List ℕ → Bool) (h : Host) (room : Room) (call : Call) (key : List ℕ) (tx : Transaction) (signatures : List Signature) (a : Reaction) (made : HostRecord)
-    → (set_refusal accepts h.state.chain tx ≡ None → formed_replays accepts h key tx ≡ true) → a ≡ form_kept accepts h room call key tx signatures → a.made ≡ Some made → replays accepts h made ≡ true
-unfolding replays
-kept_follows accepts h room call key tx signatures a made follows = by (keeping_fault (lacks_room room (records.Formed key tx)) (set_refusal accepts h.state.chain tx)) refl
+-- what is shown of a formation that breaks no rule holds of what is kept
+kept_gives : (Q : HostRecord → Type 0) (accepts : List ℕ → List ℕ → List ℕ → Bool) (h : Host) (room : Room) (call : Call) (key : List ℕ) (tx : Transaction) (signatures : List Signature) (a : Reaction) (made : HostRecord)
+    → (set_refusal accepts h.state.chain tx ≡ None → Q (records.Formed key tx)) → a ≡ form_kept accepts h room call key tx signatures → a.made ≡ Some made → Q made
+kept_gives Q accepts h room call key tx signatures a made gives = by (keeping_fault (lacks_room room (records.Formed key tx)) (set_refusal accepts h.state.chain tx)) refl
   where
-    by : (fault : Option ℕ) → keeping_fault (lacks_room room (records.Formed key tx)) (set_refusal accepts h.state.chain tx) ≡ fault → a ≡ form_unless h call key tx signatures fault → a.made ≡ Some made → replays accepts h made ≡ true
+    by : (fault : Option ℕ) → keeping_fault (lacks_room room (records.Formed key tx)) (set_refusal accepts h.state.chain tx) ≡ fault → a ≡ form_unless h call key tx signatures fault → a.made ≡ Some made → Q made
     by (Some code) at is some = absurd (refused_none h call None code a made is some)
     by None at is some =
         let formed : a.made ≡ Some (records.Formed key tx) = ap (λ (r : Reaction). r.made) is in
         let both : Some (records.Formed key tx) ≡ Some made = sym formed ∙ some in
         let same : records.Formed key tx ≡ made = (cc) in
-        subst (λ m. replays accepts h m ≡ true) same (follows (nothing_broken (lacks_room room (records.Formed key tx)) (set_refusal accepts h.state.chain tx) at))
+        subst Q same (gives (nothing_broken (lacks_room room (records.Formed key tx)) (set_refusal accepts h.state.chain tx) at))
 
--- a formation that is signed and kept
-pub formed_out : (accepts : List ℕ → List ℕ → List ℕ → Bool) (Signs : List ℕ → List ℕ → Type 0) (h : Host) (room : Room) (worker session : ℕ) (request : FormRequest) (renter : List Signature) (a : Reaction) (made : HostRecord)
-    → IsFormSigned accepts Signs h room worker session request renter a → a.made ≡ Some made → replays accepts h made ≡ true
-formed_out accepts Signs h room worker session request renter a made = by (form_judged h session request) refl
+-- what is shown of each formation that is accepted, isn't known and breaks no rule holds of what is signed and kept
+pub formed_gives : (Q : HostRecord → Type 0) (accepts : List ℕ → List ℕ → List ℕ → Bool) (Signs : List ℕ → List ℕ → Type 0) (h : Host) (room : Room) (worker session : ℕ) (request : FormRequest) (renter : List Signature) (a : Reaction) (made : HostRecord)
+    → ((collateral : ℕ) (added : Additions) (host : List Signature) → form_judged h session request ≡ Ok collateral → is_formed h request.transaction added ≡ false
+    → set_refusal accepts h.state.chain (finished request.transaction added renter host) ≡ None → Q (records.Formed request.renter_key (finished request.transaction added renter host)))
+    → IsFormSigned accepts Signs h room worker session request renter a → a.made ≡ Some made → Q made
+formed_gives Q accepts Signs h room worker session request renter a made gives = by (form_judged h session request) refl
   where
     call : Call
     call = record { worker = worker; session = session; kind = kind.FormSign }
 
     signed : (added : Additions) (known : Bool) (collateral : ℕ) → is_formed h request.transaction added ≡ known → form_judged h session request ≡ Ok collateral
-        → MatchOption (broken known BAD_CONTRACT) (FormsSigned accepts Signs h room call request renter added a) (λ code. a ≡ refused h call None code) → a.made ≡ Some made → replays accepts h made ≡ true
+        → MatchOption (broken known BAD_CONTRACT) (FormsSigned accepts Signs h room call request renter added a) (λ code. a ≡ refused h call None code) → a.made ≡ Some made → Q made
     signed added true collateral new at is some = absurd (refused_none h call None BAD_CONTRACT a made is some)
     signed added false collateral new at is some =
-        kept_follows accepts h room call request.renter_key (finished request.transaction added renter is.0) is.0 a made
-        (whole_follows accepts h request.renter_key request.transaction added renter is.0 (finished request.transaction added renter is.0) refl (judged_says h session request collateral at) new)
-        is.2 some
+        kept_gives Q accepts h room call request.renter_key (finished request.transaction added renter is.0) is.0 a made (gives collateral added is.0 at new) is.2 some
 
-    by : (judged : Result ℕ ℕ) → form_judged h session request ≡ judged → IsProposed h call None request.transaction judged (FormsSigned accepts Signs h room call request renter) a → a.made ≡ Some made → replays accepts h made ≡ true
+    by : (judged : Result ℕ ℕ) → form_judged h session request ≡ judged → IsProposed h call None request.transaction judged (FormsSigned accepts Signs h room call request renter) a → a.made ≡ Some made → Q made
     by (Err code) at is some = absurd (refused_none h call None code a made is some)
     by (Ok collateral) at is some = signed is.0 (is_formed h request.transaction is.0) collateral refl at is.2 some
+
+-- a formation that is signed and kept
+pub formed_out : (accepts : List ℕ → List ℕ → List ℕ → Bool) (Signs : List ℕ → List ℕ → Type 0) (h : Host) (room : Room) (worker session : ℕ) (request : FormRequest) (renter : List Signature) (a : Reaction) (made : HostRecord)
+    → IsFormSigned accepts Signs h room worker session request renter a → a.made ≡ Some made → replays accepts h made ≡ true
+unfolding replays
+formed_out accepts Signs h room worker session request renter a made =
+    formed_gives (λ m. replays accepts h m ≡ true) accepts Signs h room worker session request renter a made
+    (λ collateral added host at new sound.
+    whole_follows accepts h request.renter_key request.transaction added renter host (finished request.transaction added renter host) refl (judged_says h session request collateral at) new sound)

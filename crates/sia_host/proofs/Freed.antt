@@ -1,12 +1,9 @@
 -- The slots of a contract's sectors, change by change, and those that are freed.
-use Rattle.std.proofs.Common.{◌≡◌, ℕ, ◌+◌, ◌-◌, ◌<◌, ◌≤◌, true, List, [], ◌∷◌, ◌++◌, length, map, take, drop, get_or, set, slice_set, slice_index_or, refl, sym, ap, ◌∙◌, arith, append_assoc, append-nil, length-append, length-drop, length-take, length-set}
-use Rattle.std.specs.Prelude.{Bool, slice_index}
+use Rattle.std.proofs.Common.{◌≡◌, ℕ, ◌+◌, ◌-◌, ◌<◌, ◌≤◌, true, List, [], ◌∷◌, ◌++◌, length, map, drop, get_or, set, slice_set, slice_index_or, refl, sym, ap, ◌∙◌, arith, append_assoc, append-nil, length-append, length-drop, length-take, length-set}
 use Rattle.std.proofs.Math.ListN.{get_or-map}
 use Rattle.std.proofs.lemmas.List.{drop-map, drop_more, length-map, map-append, map-set, take-map}
-use Rattle.sia_diff.specs.declared.steps.DiffStep.{DiffStep}
-use Rattle.sia_diff.specs.declared.steps.DiffStep.TheVariants as step
 use Rattle.sia_diff.specs.DiffSteps.{count_after_step, step_fits}
-use Rattle.sia_diff.proofs.Counts.{left_of_and, right_of_and}
+use Rattle.sia_diff.proofs.Counts.{right_of_and}
 use Rattle.sia_diff.proofs.Counts.{fits_cons}
 use Rattle.sia_records.specs.declared.change.Change.{Change}
 use Rattle.sia_records.specs.declared.change.Change.TheVariants as changes

@@ -1,5 +1,5 @@
 -- Requests about the contract that a session holds, by what their judgement comes to.
-use Rattle.std.proofs.Common.{◌≡◌, ℕ, Result, Ok, Err, Option, Some, None, IfOk, MatchOption, refl, ap, subst, sym}
+use Rattle.std.proofs.Common.{◌≡◌, ℕ, Result, Ok, Err, Option, Some, None, IfOk, MatchOption, ap, subst}
 use Rattle.sia_encoding.specs.Answer.{◌>>=◌, unless}
 use Rattle.sia_commands.specs.declared.call.Call.{Call}
 use Rattle.sia_commands.specs.declared.step.Step.{Step}

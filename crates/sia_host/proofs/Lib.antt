@@ -29,3 +29,7 @@ pub mod CommandsOut
 pub mod WrittenOut
 pub mod RenewalsOut
 pub mod AnswersOut
+pub mod SessionsHeld
+pub mod Callers
+pub mod NamesHeld
+pub mod RunsHeld

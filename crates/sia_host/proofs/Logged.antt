@@ -1,5 +1,5 @@
 -- A log that gets room, or an event more, keeps whether a step was taken back, and has an event where it had one.
-use Rattle.std.proofs.Common.{◌≡◌, ◌∙◌, ◌+◌, ◌<◌, ℕ, List, [], ◌∷◌, ◌++◌, length, ap, sym, subst, arith}
+use Rattle.std.proofs.Common.{◌≡◌, List, [], ◌∷◌, ◌++◌, sym, subst, arith}
 use Rattle.std.proofs.lemmas.List.{length-append}
 use Rattle.sia_commands.specs.declared.event.Event.{Event}
 use Rattle.sia_kept.specs.Logs.{LogView}

@@ -1,5 +1,5 @@
 -- The contract about which a session's request isn't refused.
-use Rattle.std.proofs.Common.{◌≡◌, ◌∙◌, ℕ, List, All, Option, Some, None, Result, Ok, Err, refl, sym, subst, ap}
+use Rattle.std.proofs.Common.{◌≡◌, ◌∙◌, ℕ, List, Option, Some, None, Result, Ok, Err, refl, sym, subst, ap}
 use Rattle.sia_encoding.specs.Answer.{◌>>=◌, unless}
 use Rattle.sia_encoding.specs.Firsts.{broken}
 use Rattle.sia_commands.specs.declared.codes.TheConstants.{CLEARED, WRONG_STATE}
@@ -40,21 +40,21 @@ unrefused_opened fault (Err code) c is = (cc)
 unrefused_opened fault (Ok k) c is = ap Ok (same_contract (fault k) k c is)
 
 -- the revision that pays stores what the newest one does
-pub paid_stores : (h : Host) (session : ℕ) (fault : Kept → Option ℕ) (c : Kept) (p : Payment) (sector : ℕ) → IsSound sector h.state.contracts → unrefused fault (open_now h session) ≡ Ok c
-    → (k : Kept) → contract_among (paid_revision c p c.newest.size c.newest.root).parent h.state.contracts ≡ Some k → IsStored sector (record k { newest = paid_revision c p c.newest.size c.newest.root })
+pub paid_stores : (h : Host) (session : ℕ) (fault : Kept → Option ℕ) (c : Kept) (p : Payment) (sector : ℕ) (host_key : List ℕ) → IsSound sector host_key h.state.contracts → unrefused fault (open_now h session) ≡ Ok c
+    → (k : Kept) → contract_among (paid_revision c p c.newest.size c.newest.root).parent h.state.contracts ≡ Some k → IsStored sector host_key (record k { newest = paid_revision c p c.newest.size c.newest.root })
 unfolding revision_with
-paid_stores h session fault c p sector sound is k found =
+paid_stores h session fault c p sector host_key sound is k found =
     let there : contract_among c.id h.state.contracts ≡ Some c = opened_among h session c (unrefused_opened fault (open_now h session) c is) in
-    let stored : IsStored sector c = found_stores sector c.id h.state.contracts c sound.stored there in
+    let stored : IsStored sector host_key c = found_stores sector host_key c.id h.state.contracts c sound.stored there in
     let mine : contract_among c.id h.state.contracts ≡ Some k = subst (λ id. contract_among id h.state.contracts ≡ Some k) stored.parent found in
     let same : Some k ≡ Some c = sym mine ∙ there in
     let one : k ≡ c = (cc) in
-    subst (λ x. IsStored sector (record x { newest = paid_revision c p c.newest.size c.newest.root })) (sym one)
-    (record { parent = stored.parent; few = stored.few; size = stored.size; root = stored.root })
+    subst (λ x. IsStored sector host_key (record x { newest = paid_revision c p c.newest.size c.newest.root })) (sym one)
+    (record { id = stored.id; parent = stored.parent; address = stored.address; few = stored.few; size = stored.size; root = stored.root })
 
 -- as does one that is the same
-pub same_stores : (h : Host) (fault : Kept → Option ℕ) (c : Kept) (p : Payment) (session : ℕ) (revision : Revision) → IsSound h.settings.sector h.state.contracts → unrefused fault (open_now h session) ≡ Ok c
+pub same_stores : (h : Host) (fault : Kept → Option ℕ) (c : Kept) (p : Payment) (session : ℕ) (revision : Revision) → IsSound h.settings.sector h.settings.host_key h.state.contracts → unrefused fault (open_now h session) ≡ Ok c
     → revision ≡ paid_revision c p c.newest.size c.newest.root
-    → (k : Kept) → contract_among revision.parent h.state.contracts ≡ Some k → IsStored h.settings.sector (record k { newest = revision })
+    → (k : Kept) → contract_among revision.parent h.state.contracts ≡ Some k → IsStored h.settings.sector h.settings.host_key (record k { newest = revision })
 same_stores h fault c p session revision sound is pays =
-    subst (λ (r : Revision). (k : Kept) → contract_among r.parent h.state.contracts ≡ Some k → IsStored h.settings.sector (record k { newest = r })) (sym pays) (paid_stores h session fault c p h.settings.sector sound is)
+    subst (λ (r : Revision). (k : Kept) → contract_among r.parent h.state.contracts ≡ Some k → IsStored h.settings.sector h.settings.host_key (record k { newest = r })) (sym pays) (paid_stores h session fault c p h.settings.sector h.settings.host_key sound is)

@@ -1,5 +1,5 @@
 -- A renewal that isn't refused clears the contract that the session holds, and the new one stores its sectors.
-use Rattle.std.proofs.Common.{◌≡◌, ◌∙◌, ◌*◌, ◌-◌, ◌^◌, ◌≤◌, ◌==◌, ◌&&◌, ℕ, Bool, true, false, not, List, [], ◌∷◌, ◌++◌, All, length, map, Option, Some, None, Result, Ok, Err, refl, sym, subst, ap, arith}
+use Rattle.std.proofs.Common.{◌≡◌, ◌∙◌, ◌*◌, ◌-◌, ◌^◌, ◌≤◌, ◌&&◌, ℕ, Bool, true, false, List, [], ◌∷◌, All, length, map, Option, Some, None, Result, Ok, Err, refl, sym, subst, ap, arith}
 use Rattle.std.specs.Prelude.{IfOk, IsSome}
 use Rattle.std.proofs.lemmas.List.Elements.{All-cons, All-nil}
 use Rattle.std.proofs.Math.Nat.{mul-zero}
@@ -17,6 +17,7 @@ use Rattle.sia_forms.specs.declared.fault.FormFault.{FormFault}
 use Rattle.sia_forms.specs.declared.funding.Additions.{Additions}
 use Rattle.sia_forms.specs.Building.{finished}
 use Rattle.sia_forms.specs.Checks.{asked_to_renew, contract_answer, has_no_other_part, is_cleared, one_contract, renew_answer}
+use Rattle.sia_forms.specs.Parties.{both_address}
 use Rattle.sia_forms.specs.Renewing.{clearing}
 use Rattle.sia_commands.specs.declared.codes.TheConstants.{CLEARED, TOO_LATE, WRONG_STATE}
 use Rattle.sia_records.specs.Stored.{Stored}
@@ -24,33 +25,34 @@ use Rattle.sia_kept.specs.State.{Kept, IsSound, IsStored, after_renewal, cleared
 use Rattle.sia_kept.proofs.Cleared.{cleared_alone}
 use Rattle.sia_kept.proofs.Sound.{PassesOn, found_stores, sound_renewed}
 use Rattle.sia_host.specs.Answered.{Host, held_now, or_code, settings_now}
-use Rattle.sia_host.specs.Forming.{by_terms, funded, with_additions}
+use Rattle.sia_host.specs.Forming.{by_terms, funded}
 use Rattle.sia_host.specs.Paying.{held_among, is_late, open_now, was_cleared}
 use Rattle.sia_host.specs.declared.refusal.Refusal.{Refusal}
 use Rattle.sia_host.specs.Proposals.{IsAddition, Proposes}
-use Rattle.sia_host.specs.Renewing.{renew_judged, renew_terms, renewal_terms}
+use Rattle.sia_host.specs.Renewing.{renew_judged, renewal_terms}
 use Rattle.sia_host.proofs.Opened.{opened_among}
-use Rattle.sia_host.proofs.Sound.{Begun, added_new, begins_as_asked, begun_so, no_root, whole_contracts, whole_new}
+use Rattle.sia_host.proofs.Sound.{Begun, added_new, begins_as_asked, begun_so, length-contract_id, no_root, whole_contracts, whole_new}
 
 -- a renewal that isn't refused, and the contract that it renews
-record Renews (h : Host) (session : ℕ) (tx : Transaction) : Type 0 where
-  old : Kept
-  collateral : ℕ
-  opened : open_now h session ≡ Ok old
-  answered : renew_answer tx old.newest (settings_now h) ≡ Ok collateral
+pub record Renews (h : Host) (session : ℕ) (tx : Transaction) : Type 0 where
+  pub old : Kept
+  pub collateral : ℕ
+  pub opened : open_now h session ≡ Ok old
+  pub early : is_late h old ≡ false
+  pub answered : renew_answer tx old.newest (settings_now h) ≡ Ok collateral
 
-judged_renews : (h : Host) (session : ℕ) (tx : Transaction) (collateral : ℕ) → renew_judged h session tx ≡ Ok collateral → Renews h session tx
+pub judged_renews : (h : Host) (session : ℕ) (tx : Transaction) (collateral : ℕ) → renew_judged h session tx ≡ Ok collateral → Renews h session tx
 judged_renews h session tx collateral = by (open_now h session) refl
   where
-    terms : (c : Kept) (late : Bool) (answer : Result ℕ FormFault) → open_now h session ≡ Ok c → renew_answer tx c.newest (settings_now h) ≡ answer
+    terms : (c : Kept) (late : Bool) (answer : Result ℕ FormFault) → open_now h session ≡ Ok c → is_late h c ≡ late → renew_answer tx c.newest (settings_now h) ≡ answer
         → ((unless (broken late TOO_LATE) >>= (λ _. by_terms answer)) >>= funded h) ≡ Ok collateral → Renews h session tx
-    terms c true answer opened at is = (cc)
-    terms c false (Err fault) opened at is = (cc)
-    terms c false (Ok found) opened at is = record { old = c; collateral = found; opened = opened; answered = at }
+    terms c true answer opened early at is = (cc)
+    terms c false (Err fault) opened early at is = (cc)
+    terms c false (Ok found) opened early at is = record { old = c; collateral = found; opened = opened; early = early; answered = at }
 
     by : (opened : Result Kept ℕ) → open_now h session ≡ opened → ((opened >>= renewal_terms h tx) >>= funded h) ≡ Ok collateral → Renews h session tx
     by (Err code) at is = (cc)
-    by (Ok c) at is = terms c (is_late h c) (renew_answer tx c.newest (settings_now h)) at refl is
+    by (Ok c) at is = terms c (is_late h c) (renew_answer tx c.newest (settings_now h)) at refl refl is
 
 -- so is one to which the host adds its part
 added_renews : (h : Host) (session : ℕ) (tx : Transaction) (added : Additions) → IsAddition h tx (renew_judged h session tx) added → Renews h session tx
@@ -72,11 +74,11 @@ renewed_held : (h : Host) (session : ℕ) (tx : Transaction) (added : Additions)
 renewed_held h session tx added is = let r = added_renews h session tx added is in open_held h session r.old r.opened
 
 -- the one contract of a renewal begins with what the old one stores
-renew_begins : (tx : Transaction) (newest : Revision) (s : Settings) (collateral : ℕ) → renew_answer tx newest s ≡ Ok collateral → Begun tx newest.size newest.root
+renew_begins : (tx : Transaction) (newest : Revision) (s : Settings) (collateral : ℕ) → renew_answer tx newest s ≡ Ok collateral → Begun tx newest.size newest.root newest.address
 unfolding renew_answer
 renew_begins tx newest s collateral = by (is_cleared newest tx.revisions && has_no_other_part tx) tx.contracts refl
   where
-    by : (fit : Bool) (cs : List FileContract) → tx.contracts ≡ cs → (one_contract fit cs >>= (λ c. contract_answer s (asked_to_renew s newest c) c)) ≡ Ok collateral → Begun tx newest.size newest.root
+    by : (fit : Bool) (cs : List FileContract) → tx.contracts ≡ cs → (one_contract fit cs >>= (λ c. contract_answer s (asked_to_renew s newest c) c)) ≡ Ok collateral → Begun tx newest.size newest.root newest.address
     by true [] one is = (cc)
     by true (c ∷ []) one is = begun_so tx newest.size newest.root newest.address c one (begins_as_asked s (asked_to_renew s newest c) c collateral is)
     by true (c ∷ other ∷ more) one is = (cc)
@@ -93,27 +95,27 @@ renew_clears tx newest s collateral = by (is_cleared newest tx.revisions) (has_n
 
 -- the new contract stores the sectors that pass on
 begun_stored : (sector : ℕ) (host_key renter_key : List ℕ) (tx : Transaction) (sectors : List Stored) (terms : FileContract) → length sectors ≤ CONTRACT_SECTORS → terms.size ≡ sector * length sectors
-    → terms.root ≡ node_root_of (map root_in sectors) → IsStored sector (new_contract host_key renter_key tx sectors terms)
+    → terms.root ≡ node_root_of (map root_in sectors) → terms.address ≡ both_address renter_key host_key → IsStored sector host_key (new_contract host_key renter_key tx sectors terms)
 unfolding new_contract first_revision
-begun_stored sector host_key renter_key tx sectors terms few size root = record { parent = refl; few = few; size = size; root = root }
+begun_stored sector host_key renter_key tx sectors terms few size root address = record { id = length-contract_id tx; parent = refl; address = address; few = few; size = size; root = root }
 
 -- the old one stores nothing any more
-cleared_stored : (sector : ℕ) (tx : Transaction) (old : Kept) → IsStored sector old → IsStored sector (cleared_by tx (clearing old.newest) old)
+cleared_stored : (sector : ℕ) (host_key : List ℕ) (tx : Transaction) (old : Kept) → IsStored sector host_key old → IsStored sector host_key (cleared_by tx (clearing old.newest) old)
 unfolding clearing
-cleared_stored sector tx old stored = record { parent = stored.parent; few = omega arith; size = sym (mul-zero sector); root = sym no_root }
+cleared_stored sector host_key tx old stored = record { id = stored.id; parent = stored.parent; address = stored.address; few = omega arith; size = sym (mul-zero sector); root = sym no_root }
 
 -- so the sectors pass on
-pub passes_on : (sector : ℕ) (host_key : List ℕ) (tx : Transaction) (old : Kept) → IsStored sector old → Begun tx old.newest.size old.newest.root → PassesOn sector host_key tx (clearing old.newest) old
+pub passes_on : (sector : ℕ) (host_key : List ℕ) (tx : Transaction) (old : Kept) → IsStored sector host_key old → Begun tx old.newest.size old.newest.root (both_address old.renter_key host_key) → PassesOn sector host_key tx (clearing old.newest) old
 passes_on sector host_key tx old stored begun =
-    let one : IsStored sector (new_contract host_key old.renter_key tx old.sectors begun.terms) =
-    begun_stored sector host_key old.renter_key tx old.sectors begun.terms stored.few (begun.sized ∙ stored.size) (begun.rooted ∙ stored.root) in
+    let one : IsStored sector host_key (new_contract host_key old.renter_key tx old.sectors begun.terms) =
+    begun_stored sector host_key old.renter_key tx old.sectors begun.terms stored.few (begun.sized ∙ stored.size) (begun.rooted ∙ stored.root) begun.addressed in
     record {
-      cleared = cleared_stored sector tx old stored;
-      renewed = subst (λ cs. All (IsStored sector) (formed_by host_key old.renter_key tx old.sectors cs)) (sym begun.one) (All-cons (IsStored sector) (new_contract host_key old.renter_key tx old.sectors begun.terms) [] one (All-nil (IsStored sector)));
+      cleared = cleared_stored sector host_key tx old stored;
+      renewed = subst (λ cs. All (IsStored sector host_key) (formed_by host_key old.renter_key tx old.sectors cs)) (sym begun.one) (All-cons (IsStored sector host_key) (new_contract host_key old.renter_key tx old.sectors begun.terms) [] one (All-nil (IsStored sector host_key)));
     }
 
 -- the clearing revision is of the contract that it clears
-same_parent : (newest : Revision) → (clearing newest).parent ≡ newest.parent
+pub same_parent : (newest : Revision) → (clearing newest).parent ≡ newest.parent
 unfolding clearing
 same_parent newest = refl
 
@@ -125,26 +127,26 @@ is_old contracts old c there own found =
     (cc)
 
 -- a host stays sound with a renewal, whoever signs it
-renewal_sound : (h : Host) (session : ℕ) (tx : Transaction) (added : Additions) → IsSound h.settings.sector h.state.contracts → IsAddition h tx (renew_judged h session tx) added
+renewal_sound : (h : Host) (session : ℕ) (tx : Transaction) (added : Additions) → IsSound h.settings.sector h.settings.host_key h.state.contracts → IsAddition h tx (renew_judged h session tx) added
     → ((c : Kept) → open_now h session ≡ Ok c → tx.revisions ≡ clearing c.newest ∷ [])
-    → (renter host : List Signature) → IsSound h.settings.sector (after_renewal h.settings.host_key (finished tx added renter host) h.state.contracts tx.revisions)
+    → (renter host : List Signature) → IsSound h.settings.sector h.settings.host_key (after_renewal h.settings.host_key (finished tx added renter host) h.state.contracts tx.revisions)
 renewal_sound h session tx added sound is clears renter host =
     let r = added_renews h session tx added is in
     let whole = finished tx added renter host in
     let there : contract_among r.old.id h.state.contracts ≡ Some r.old = opened_among h session r.old r.opened in
-    let stored : IsStored h.settings.sector r.old = found_stores h.settings.sector r.old.id h.state.contracts r.old sound.stored there in
+    let stored : IsStored h.settings.sector h.settings.host_key r.old = found_stores h.settings.sector h.settings.host_key r.old.id h.state.contracts r.old sound.stored there in
     let begun = renew_begins tx r.old.newest (settings_now h) r.collateral r.answered in
-    let whole_begun : Begun whole r.old.newest.size r.old.newest.root =
-    record { terms = begun.terms; one = whole_contracts tx added renter host whole refl ∙ begun.one; sized = begun.sized; rooted = begun.rooted } in
+    let whole_begun : Begun whole r.old.newest.size r.old.newest.root (both_address r.old.renter_key h.settings.host_key) =
+    record { terms = begun.terms; one = whole_contracts tx added renter host whole refl ∙ begun.one; sized = begun.sized; rooted = begun.rooted; addressed = begun.addressed ∙ stored.address } in
     let passes : (c : Kept) → contract_among (clearing r.old.newest).parent h.state.contracts ≡ Some c → PassesOn h.settings.sector h.settings.host_key whole (clearing r.old.newest) c =
     λ c found. subst (PassesOn h.settings.sector h.settings.host_key whole (clearing r.old.newest)) (sym (is_old h.state.contracts r.old c there stored.parent found)) (passes_on h.settings.sector h.settings.host_key whole r.old stored whole_begun) in
-    subst (λ rs. IsSound h.settings.sector (after_renewal h.settings.host_key whole h.state.contracts rs)) (sym (clears r.old r.opened))
+    subst (λ rs. IsSound h.settings.sector h.settings.host_key (after_renewal h.settings.host_key whole h.state.contracts rs)) (sym (clears r.old r.opened))
     (sound_renewed h.settings.sector h.settings.host_key whole h.state.contracts (clearing r.old.newest) sound (whole_new h tx added renter host whole (added_new h tx (renew_judged h session tx) added is) refl) passes)
 
 -- so it does where a proposal is answered with what the host adds
-pub proposed_sound : (h : Host) (session : ℕ) (tx : Transaction) (result : Result Additions Refusal) → IsSound h.settings.sector h.state.contracts → Proposes h tx (renew_judged h session tx) result
+pub proposed_sound : (h : Host) (session : ℕ) (tx : Transaction) (result : Result Additions Refusal) → IsSound h.settings.sector h.settings.host_key h.state.contracts → Proposes h tx (renew_judged h session tx) result
     → ((c : Kept) → open_now h session ≡ Ok c → tx.revisions ≡ clearing c.newest ∷ [])
-    → IfOk result (λ added. (renter host : List Signature) → IsSound h.settings.sector (after_renewal h.settings.host_key (finished tx added renter host) h.state.contracts tx.revisions))
+    → IfOk result (λ added. (renter host : List Signature) → IsSound h.settings.sector h.settings.host_key (after_renewal h.settings.host_key (finished tx added renter host) h.state.contracts tx.revisions))
 proposed_sound h session tx (Ok added) sound is clears = renewal_sound h session tx added sound is clears
 proposed_sound h session tx (Err refusal) sound is clears = tt
 
@@ -162,6 +164,6 @@ terms_clear tx s collateral opened contract newest is same fits all answered c a
 
 -- the whole transaction has the revisions of the proposal
 pub whole_sound : (sector : ℕ) (host_key : List ℕ) (contracts : List Kept) (tx : Transaction) (added : Additions) (renter host : List Signature) (whole : Transaction) → whole ≡ finished tx added renter host
-    → IsSound sector (after_renewal host_key (finished tx added renter host) contracts tx.revisions) → IsSound sector (after_renewal host_key whole contracts whole.revisions)
+    → IsSound sector host_key (after_renewal host_key (finished tx added renter host) contracts tx.revisions) → IsSound sector host_key (after_renewal host_key whole contracts whole.revisions)
 unfolding finished
-whole_sound sector host_key contracts tx added renter host whole is sound = subst (λ (t : Transaction). IsSound sector (after_renewal host_key t contracts t.revisions)) (sym is) sound
+whole_sound sector host_key contracts tx added renter host whole is sound = subst (λ (t : Transaction). IsSound sector host_key (after_renewal host_key t contracts t.revisions)) (sym is) sound

@@ -49,19 +49,23 @@ pub formed_new : (accepts : List ℕ → List ℕ → List ℕ → Bool) (h : Ho
 formed_new accepts h renter_key tx is = new_apart accepts h tx (right_of_and ((length tx.revisions == 0) && has_coins_alone tx && begins_so h renter_key tx.contracts) (is_new accepts h tx) is)
 
 -- and its contract stores nothing
-pub formed_stores : (accepts : List ℕ → List ℕ → List ℕ → Bool) (h : Host) (renter_key : List ℕ) (tx : Transaction) (sector : ℕ) (host_key : List ℕ) → formed_replays accepts h renter_key tx ≡ true
-    → All (IsStored sector) (formed_by host_key renter_key tx [] tx.contracts)
-formed_stores accepts h renter_key tx sector host_key is =
+pub formed_stores : (accepts : List ℕ → List ℕ → List ℕ → Bool) (h : Host) (renter_key : List ℕ) (tx : Transaction) → formed_replays accepts h renter_key tx ≡ true
+    → All (IsStored h.settings.sector h.settings.host_key) (formed_by h.settings.host_key renter_key tx [] tx.contracts)
+formed_stores accepts h renter_key tx is =
     by tx.contracts refl (right_of_and ((length tx.revisions == 0) && has_coins_alone tx) (begins_so h renter_key tx.contracts)
     (left_of_and ((length tx.revisions == 0) && has_coins_alone tx && begins_so h renter_key tx.contracts) (is_new accepts h tx) is))
   where
-    by : (contracts : List FileContract) → tx.contracts ≡ contracts → begins_so h renter_key contracts ≡ true → All (IsStored sector) (formed_by host_key renter_key tx [] contracts)
+    Stores : Kept → Type 0
+    Stores = IsStored h.settings.sector h.settings.host_key
+
+    by : (contracts : List FileContract) → tx.contracts ≡ contracts → begins_so h renter_key contracts ≡ true → All Stores (formed_by h.settings.host_key renter_key tx [] contracts)
     by [] one begins = (cc)
     by (c ∷ []) one begins =
         let address = both_address renter_key h.settings.host_key in
         let begun = begun_so tx 0 zero_hash address c one (left_of_and (begins_with 0 zero_hash address c) (pays_parties h.settings 0 c.valid c.missed) begins) in
         let same : (c ∷ []) ≡ (begun.terms ∷ []) = sym one ∙ begun.one in
-        subst (λ cs. All (IsStored sector) (formed_by host_key renter_key tx [] cs)) (sym same) (All-cons (IsStored sector) (new_contract host_key renter_key tx [] begun.terms) [] (empty_stored sector host_key renter_key tx begun.terms begun.sized begun.rooted) (All-nil (IsStored sector)))
+        let one = new_contract h.settings.host_key renter_key tx [] begun.terms in
+        subst (λ cs. All Stores (formed_by h.settings.host_key renter_key tx [] cs)) (sym same) (All-cons Stores one [] (empty_stored h.settings.sector h.settings.host_key renter_key tx begun.terms begun.sized begun.rooted begun.addressed) (All-nil Stores))
     by (c ∷ other ∷ more) one begins = (cc)
 
 -- revisions
@@ -96,12 +100,14 @@ count_changed : (c : Kept) (done : List Change) → length (stored_after c.secto
 count_changed c done = sym (length-map (stored_after c.sectors done) root_in) ∙ ap length (roots_after c.sectors done)
 
 -- the revision that changes make stores what they make of the sectors
-pub expected_stores : (h : Host) (revision : Revision) (renter host : List ℕ) (done : List Change) (c : Kept) (p : Payment) → IsStored h.settings.sector c → revision.parent ≡ c.id
-    → is_fit (length c.sectors) (map step_of done) ≡ true → revision ≡ expected h c p done → IsStored h.settings.sector (revised_contract revision renter host done c)
+pub expected_stores : (h : Host) (revision : Revision) (renter host : List ℕ) (done : List Change) (c : Kept) (p : Payment) → IsStored h.settings.sector h.settings.host_key c → revision.parent ≡ c.id
+    → is_fit (length c.sectors) (map step_of done) ≡ true → revision ≡ expected h c p done → IsStored h.settings.sector h.settings.host_key (revised_contract revision renter host done c)
 unfolding revision_with
 expected_stores h revision renter host [] c p stored parent fits is =
-    stored_same h.settings.sector revision renter host c (record {
+    stored_same h.settings.sector h.settings.host_key revision renter host c (record {
+      id = stored.id;
       parent = parent;
+      address = ap (λ (r : Revision). r.address) is ∙ stored.address;
       few = stored.few;
       size = ap (λ (r : Revision). r.size) is ∙ stored.size;
       root = ap (λ (r : Revision). r.root) is ∙ stored.root;
@@ -110,7 +116,9 @@ expected_stores h revision renter host (one ∷ others) c p stored parent fits i
     let many = count_changed c (one ∷ others) in
     let few = few_changed c (one ∷ others) fits in
     record {
+      id = stored.id;
       parent = parent;
+      address = ap (λ (r : Revision). r.address) is ∙ stored.address;
       few = omega (arith, many, few);
       size = ap (λ (r : Revision). r.size) is ∙ ap (λ n. h.settings.sector * n) (sym many);
       root = ap (λ (r : Revision). r.root) is ∙ ap node_root_of (sym (roots_after c.sectors (one ∷ others)));
@@ -125,21 +133,21 @@ follows_fit accepts h revision renter done found c at is there =
     subst (λ (k : Kept). is_fit (length k.sectors) (map step_of done) ≡ true) same (revises_fit accepts h revision renter done found is)
 
 -- and stores what they make of them
-pub follows_stores : (accepts : List ℕ → List ℕ → List ℕ → Bool) (h : Host) (revision : Revision) (renter host : List ℕ) (done : List Change) (found c : Kept) → IsSound h.settings.sector h.state.contracts
+pub follows_stores : (accepts : List ℕ → List ℕ → List ℕ → Bool) (h : Host) (revision : Revision) (renter host : List ℕ) (done : List Change) (found c : Kept) → IsSound h.settings.sector h.settings.host_key h.state.contracts
     → contract_among revision.parent h.state.contracts ≡ Some found → revises_contract accepts h revision renter done found ≡ true → revision ≡ expected h found (payment_in revision) done
-    → contract_among revision.parent h.state.contracts ≡ Some c → IsStored h.settings.sector (revised_contract revision renter host done c)
+    → contract_among revision.parent h.state.contracts ≡ Some c → IsStored h.settings.sector h.settings.host_key (revised_contract revision renter host done c)
 follows_stores accepts h revision renter host done found c sound at is made there =
     let some : Some found ≡ Some c = sym at ∙ there in
     let same : found ≡ c = (cc) in
-    subst (λ (k : Kept). IsStored h.settings.sector (revised_contract revision renter host done k)) same
-    (expected_stores h revision renter host done found (payment_in revision) (found_stores h.settings.sector revision.parent h.state.contracts found sound.stored at) (sym (found_id revision.parent h.state.contracts found at))
+    subst (λ (k : Kept). IsStored h.settings.sector h.settings.host_key (revised_contract revision renter host done k)) same
+    (expected_stores h revision renter host done found (payment_in revision) (found_stores h.settings.sector h.settings.host_key revision.parent h.state.contracts found sound.stored at) (sym (found_id revision.parent h.state.contracts found at))
     (revises_fit accepts h revision renter done found is) made)
 
 -- where memory didn't run out
-pub stores_on : {E : Type 0} (accepts : List ℕ → List ℕ → List ℕ → Bool) (h : Host) (revision : Revision) (renter host : List ℕ) (done : List Change) (found : Kept) (result : Result Bool E) → IsSound h.settings.sector h.state.contracts
+pub stores_on : {E : Type 0} (accepts : List ℕ → List ℕ → List ℕ → Bool) (h : Host) (revision : Revision) (renter host : List ℕ) (done : List Change) (found : Kept) (result : Result Bool E) → IsSound h.settings.sector h.settings.host_key h.state.contracts
     → contract_among revision.parent h.state.contracts ≡ Some found → IfOk result (λ follows. follows ≡ revises_contract accepts h revision renter done found)
     → IfOk result (λ follows. follows ≡ true → revision ≡ expected h found (payment_in revision) done)
-    → IfOk result (λ follows. follows ≡ true → (c : Kept) → contract_among revision.parent h.state.contracts ≡ Some c → IsStored h.settings.sector (revised_contract revision renter host done c))
+    → IfOk result (λ follows. follows ≡ true → (c : Kept) → contract_among revision.parent h.state.contracts ≡ Some c → IsStored h.settings.sector h.settings.host_key (revised_contract revision renter host done c))
 stores_on accepts h revision renter host done found (Ok follows) sound at judged made = (λ yes c there. follows_stores accepts h revision renter host done found c sound at (sym judged ∙ yes) (made yes) there)
 stores_on accepts h revision renter host done found (Err e) sound at judged made = tt
 
@@ -158,10 +166,10 @@ found_now id c h now same at = subst (λ (k : Host). contract_among id k.state.c
 -- renewals
 
 -- the contract of a renewal that follows begins with what the old one stores
-renewed_begins : (h : Host) (old : Kept) (tx : Transaction) → renews_so h old tx.contracts ≡ true → Begun tx old.newest.size old.newest.root
+renewed_begins : (h : Host) (old : Kept) (tx : Transaction) → renews_so h old tx.contracts ≡ true → Begun tx old.newest.size old.newest.root (both_address old.renter_key h.settings.host_key)
 renewed_begins h old tx = by tx.contracts refl
   where
-    by : (contracts : List FileContract) → tx.contracts ≡ contracts → renews_so h old contracts ≡ true → Begun tx old.newest.size old.newest.root
+    by : (contracts : List FileContract) → tx.contracts ≡ contracts → renews_so h old contracts ≡ true → Begun tx old.newest.size old.newest.root (both_address old.renter_key h.settings.host_key)
     by [] one begins = (cc)
     by (c ∷ []) one begins =
         let address = both_address old.renter_key h.settings.host_key in
@@ -169,23 +177,23 @@ renewed_begins h old tx = by tx.contracts refl
     by (c ∷ other ∷ more) one begins = (cc)
 
 -- a host stays sound with a renewal that follows and clears
-renewed_sound : (accepts : List ℕ → List ℕ → List ℕ → Bool) (h : Host) (tx : Transaction) (id : List ℕ) (old : Kept) → IsSound h.settings.sector h.state.contracts → contract_among id h.state.contracts ≡ Some old
-    → renews_contract accepts h tx old ≡ true → tx.revisions ≡ clearing old.newest ∷ [] → IsSound h.settings.sector (after_renewal h.settings.host_key tx h.state.contracts tx.revisions)
+renewed_sound : (accepts : List ℕ → List ℕ → List ℕ → Bool) (h : Host) (tx : Transaction) (id : List ℕ) (old : Kept) → IsSound h.settings.sector h.settings.host_key h.state.contracts → contract_among id h.state.contracts ≡ Some old
+    → renews_contract accepts h tx old ≡ true → tx.revisions ≡ clearing old.newest ∷ [] → IsSound h.settings.sector h.settings.host_key (after_renewal h.settings.host_key tx h.state.contracts tx.revisions)
 renewed_sound accepts h tx id old sound at is clears =
-    let stored : IsStored h.settings.sector old = found_stores h.settings.sector id h.state.contracts old sound.stored at in
+    let stored : IsStored h.settings.sector h.settings.host_key old = found_stores h.settings.sector h.settings.host_key id h.state.contracts old sound.stored at in
     let there : contract_among old.id h.state.contracts ≡ Some old = subst (λ i. contract_among i h.state.contracts ≡ Some old) (sym (found_id id h.state.contracts old at)) at in
     let before = not (was_cleared old) && not (is_late h old) && is_cleared old.newest tx.revisions && has_coins_alone tx in
-    let begun : Begun tx old.newest.size old.newest.root = renewed_begins h old tx (right_of_and before (renews_so h old tx.contracts) (left_of_and (before && renews_so h old tx.contracts) (is_new accepts h tx) is)) in
+    let begun : Begun tx old.newest.size old.newest.root (both_address old.renter_key h.settings.host_key) = renewed_begins h old tx (right_of_and before (renews_so h old tx.contracts) (left_of_and (before && renews_so h old tx.contracts) (is_new accepts h tx) is)) in
     let none : is_among (contract_id tx 0) h.state.contracts ≡ false = new_apart accepts h tx (right_of_and (before && renews_so h old tx.contracts) (is_new accepts h tx) is) in
     let passes : (c : Kept) → contract_among (clearing old.newest).parent h.state.contracts ≡ Some c → PassesOn h.settings.sector h.settings.host_key tx (clearing old.newest) c =
     λ c found. subst (PassesOn h.settings.sector h.settings.host_key tx (clearing old.newest)) (sym (is_old h.state.contracts old c there stored.parent found)) (passes_on h.settings.sector h.settings.host_key tx old stored begun) in
-    subst (λ revisions. IsSound h.settings.sector (after_renewal h.settings.host_key tx h.state.contracts revisions)) (sym clears)
+    subst (λ revisions. IsSound h.settings.sector h.settings.host_key (after_renewal h.settings.host_key tx h.state.contracts revisions)) (sym clears)
     (sound_renewed h.settings.sector h.settings.host_key tx h.state.contracts (clearing old.newest) sound none passes)
 
 -- where memory didn't run out
-pub renews_on : {E : Type 0} (accepts : List ℕ → List ℕ → List ℕ → Bool) (h : Host) (tx : Transaction) (id : List ℕ) (old : Kept) (result : Result Bool E) → IsSound h.settings.sector h.state.contracts → contract_among id h.state.contracts ≡ Some old
+pub renews_on : {E : Type 0} (accepts : List ℕ → List ℕ → List ℕ → Bool) (h : Host) (tx : Transaction) (id : List ℕ) (old : Kept) (result : Result Bool E) → IsSound h.settings.sector h.settings.host_key h.state.contracts → contract_among id h.state.contracts ≡ Some old
     → IfOk result (λ follows. follows ≡ renews_contract accepts h tx old) → IfOk result (λ follows. follows ≡ true → tx.revisions ≡ clearing old.newest ∷ [])
-    → IfOk result (λ follows. follows ≡ true → IsSound h.settings.sector (after_renewal h.settings.host_key tx h.state.contracts tx.revisions))
+    → IfOk result (λ follows. follows ≡ true → IsSound h.settings.sector h.settings.host_key (after_renewal h.settings.host_key tx h.state.contracts tx.revisions))
 renews_on accepts h tx id old (Ok follows) sound at judged clears = (λ yes. renewed_sound accepts h tx id old sound at (sym judged ∙ yes) (clears yes))
 renews_on accepts h tx id old (Err e) sound at judged clears = tt
 

@@ -94,14 +94,14 @@ all_eight : (a b c d e f g i : Bool) → a ≡ true → b ≡ true → c ≡ tru
 all_eight a b c d e f g i one two three four five six seven eight = rw (one, two, three, four, five, six, seven, eight) refl
 
 -- a revision that pays, whose changes are fit and which the renter signed, follows
-pub paying_follows : (accepts : List ℕ → List ℕ → List ℕ → Bool) (h : Host) (session : ℕ) (c : Kept) (p : Payment) (size : ℕ) (root renter host : List ℕ) (done : List Change) → IsSound h.settings.sector h.state.contracts
+pub paying_follows : (accepts : List ℕ → List ℕ → List ℕ → Bool) (h : Host) (session : ℕ) (c : Kept) (p : Payment) (size : ℕ) (root renter host : List ℕ) (done : List Change) → IsSound h.settings.sector h.settings.host_key h.state.contracts
     → open_now h session ≡ Ok c → Paid h c p → changes_fit h c done ≡ true → paid_revision c p size root ≡ expected h c p done → signs_revision accepts c.renter_key (paid_revision c p size root) renter ≡ true
     → replays accepts h (records.Revised (paid_revision c p size root) renter host done) ≡ true
 unfolding replays revision_with
 paying_follows accepts h session c p size root renter host done sound opened paid fit made signed =
     let revision = paid_revision c p size root in
     let there : contract_among c.id h.state.contracts ≡ Some c = opened_among h session c opened in
-    let stored : IsStored h.settings.sector c = found_stores h.settings.sector c.id h.state.contracts c sound.stored there in
+    let stored : IsStored h.settings.sector h.settings.host_key c = found_stores h.settings.sector h.settings.host_key c.id h.state.contracts c sound.stored there in
     let named : contract_among revision.parent h.state.contracts ≡ Some c = ap (λ id. contract_among id h.state.contracts) stored.parent ∙ there in
     let same : payment_in revision ≡ p = payment_again c p size root paid.counts in
     let spelled : is_spelled_as revision_codec revision (expected h c (payment_in revision) done) ≡ true =
@@ -124,33 +124,33 @@ signed_so accepts room key revision renter made = by (lacks_room room made) (sig
     by false false is = (cc)
     by true signed is = (cc)
 
--- what a revision that is answered so records follows, where it follows once it is signed
-pub revised_out : (accepts : List ℕ → List ℕ → List ℕ → Bool) (Signs : List ℕ → List ℕ → Type 0) (h : Host) (room : Room) (call : Call) (id key : List ℕ) (revision : Revision) (renter : List ℕ) (changes : List Change)
+-- what is shown of a revision once it is signed holds of what is kept
+pub revised_out : (Q : HostRecord → Type 0) (accepts : List ℕ → List ℕ → List ℕ → Bool) (Signs : List ℕ → List ℕ → Type 0) (h : Host) (room : Room) (call : Call) (id key : List ℕ) (revision : Revision) (renter : List ℕ) (changes : List Change)
     (said : List ℕ → Reply) (work : Work) (a : Reaction) (made : HostRecord)
-    → ((host : List ℕ) → signs_revision accepts key revision renter ≡ true → replays accepts h (records.Revised revision renter host changes) ≡ true)
-    → IsRevised accepts Signs h room call id key revision renter changes said work a → a.made ≡ Some made → replays accepts h made ≡ true
-revised_out accepts Signs h room call id key revision renter changes said work a made follows revised =
+    → ((host : List ℕ) → signs_revision accepts key revision renter ≡ true → Q (records.Revised revision renter host changes))
+    → IsRevised accepts Signs h room call id key revision renter changes said work a → a.made ≡ Some made → Q made
+revised_out Q accepts Signs h room call id key revision renter changes said work a made gives revised =
     by (revising_fault accepts room key revision renter (records.Revised revision renter revised.0 changes)) refl revised.2
   where
     by : (fault : Option ℕ) → revising_fault accepts room key revision renter (records.Revised revision renter revised.0 changes) ≡ fault
-        → a ≡ revised_unless h call id (said revised.0) (records.Revised revision renter revised.0 changes) work fault → a.made ≡ Some made → replays accepts h made ≡ true
+        → a ≡ revised_unless h call id (said revised.0) (records.Revised revision renter revised.0 changes) work fault → a.made ≡ Some made → Q made
     by (Some code) at is some = absurd (refused_none h call (Some id) code a made is some)
     by None at is some =
         let told : a.made ≡ Some (records.Revised revision renter revised.0 changes) = ap (λ (r : Reaction). r.made) is in
         let both : Some (records.Revised revision renter revised.0 changes) ≡ Some made = sym told ∙ some in
         let same : records.Revised revision renter revised.0 changes ≡ made = (cc) in
-        subst (λ m. replays accepts h m ≡ true) same (follows revised.0 (signed_so accepts room key revision renter (records.Revised revision renter revised.0 changes) at))
+        subst Q same (gives revised.0 (signed_so accepts room key revision renter (records.Revised revision renter revised.0 changes) at))
 
--- a request about the held contract records what follows where it isn't refused
-pub held_out : (accepts : List ℕ → List ℕ → List ℕ → Bool) (h : Host) (call : Call) (opened : Result Kept ℕ) (fault : Kept → Option ℕ) (Follows : Kept → Reaction → Type 0) (a : Reaction) (made : HostRecord)
-    → ((c : Kept) → opened ≡ Ok c → fault c ≡ None → Follows c a → replays accepts h made ≡ true) → IsHeld h call opened fault Follows a → a.made ≡ Some made → replays accepts h made ≡ true
-held_out accepts h call (Err code) fault Follows a made follows is some = absurd (refused_none h call (held_now h call.session) code a made is some)
-held_out accepts h call (Ok c) fault Follows a made follows is some = by (fault c) refl is
+-- what is shown of a request about the held contract that isn't refused holds where it makes a record
+pub held_out : (Q : Type 0) (h : Host) (call : Call) (opened : Result Kept ℕ) (fault : Kept → Option ℕ) (Follows : Kept → Reaction → Type 0) (a : Reaction) (made : HostRecord)
+    → ((c : Kept) → opened ≡ Ok c → fault c ≡ None → Follows c a → Q) → IsHeld h call opened fault Follows a → a.made ≡ Some made → Q
+held_out Q h call (Err code) fault Follows a made gives is some = absurd (refused_none h call (held_now h call.session) code a made is some)
+held_out Q h call (Ok c) fault Follows a made gives is some = by (fault c) refl is
   where
-    by : (f : Option ℕ) → fault c ≡ f → MatchOption f (Follows c a) (λ code. a ≡ refused h call (held_now h call.session) code) → replays accepts h made ≡ true
+    by : (f : Option ℕ) → fault c ≡ f → MatchOption f (Follows c a) (λ code. a ≡ refused h call (held_now h call.session) code) → Q
     by (Some code) at is = absurd (refused_none h call (held_now h call.session) code a made is some)
-    by None at is = follows c refl at is
+    by None at is = gives c refl at is
 
 -- no change is fit, and takes no slot
-pub nothing_changed : (h : Host) (c : Kept) → IsStored h.settings.sector c → changes_fit h c [] ≡ true
+pub nothing_changed : (h : Host) (c : Kept) → IsStored h.settings.sector h.settings.host_key c → changes_fit h c [] ≡ true
 nothing_changed h c stored = rw (nothing_fits (length c.sectors) stored.few) refl

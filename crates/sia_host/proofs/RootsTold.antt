@@ -1,5 +1,5 @@
 -- The answers by a revision that both parties sign.
-use Rattle.std.proofs.Common.{◌≡◌, ◌∙◌, ◌+◌, ℕ, Bool, true, List, [], ◌∷◌, length, map, Some, None, Result, Ok, Err, IfOk, ap, subst, sym}
+use Rattle.std.proofs.Common.{◌≡◌, ◌∙◌, ◌+◌, ℕ, Bool, true, List, [], length, map, Some, None, Result, Ok, IfOk, ap, subst, sym}
 use Rattle.sia_diff.specs.DiffSteps.{is_fit}
 use Rattle.sia_types.specs.declared.file_contracts.Revision.{Revision}
 use Rattle.sia_range.specs.Ranges.{part_between, roots_outside}
@@ -49,17 +49,17 @@ revised_plainly accepts Signs h room call id renter_key revision renter host cha
 
 -- no change is fit for the contract that such a revision is of
 pub plain_fits : (h : Host) (revision : Revision) (changes : List Change) → changes ≡ []
-    → ((c : Kept) → contract_among revision.parent h.state.contracts ≡ Some c → IsStored h.settings.sector (record c { newest = revision }))
+    → ((c : Kept) → contract_among revision.parent h.state.contracts ≡ Some c → IsStored h.settings.sector h.settings.host_key (record c { newest = revision }))
     → (c : Kept) → contract_among revision.parent h.state.contracts ≡ Some c → is_fit (length c.sectors) (map step_of changes) ≡ true
 plain_fits h revision changes none stores c found =
     ap (λ cs. is_fit (length c.sectors) (map step_of cs)) none ∙ nothing_fits (length c.sectors) (stores c found).few
 
 -- and the contract stores what it did
 pub plain_stores : (h : Host) (revision : Revision) (renter host : List ℕ) (changes : List Change) → changes ≡ []
-    → ((c : Kept) → contract_among revision.parent h.state.contracts ≡ Some c → IsStored h.settings.sector (record c { newest = revision }))
-    → (c : Kept) → contract_among revision.parent h.state.contracts ≡ Some c → IsStored h.settings.sector (revised_contract revision renter host changes c)
+    → ((c : Kept) → contract_among revision.parent h.state.contracts ≡ Some c → IsStored h.settings.sector h.settings.host_key (record c { newest = revision }))
+    → (c : Kept) → contract_among revision.parent h.state.contracts ≡ Some c → IsStored h.settings.sector h.settings.host_key (revised_contract revision renter host changes c)
 plain_stores h revision renter host changes none stores c found =
-    subst (λ (cs : List Change). IsStored h.settings.sector (revised_contract revision renter host cs c)) (sym none) (stored_same h.settings.sector revision renter host c (stores c found))
+    subst (λ (cs : List Change). IsStored h.settings.sector h.settings.host_key (revised_contract revision renter host cs c)) (sym none) (stored_same h.settings.sector h.settings.host_key revision renter host c (stores c found))
 
 -- roots that are told by a revision that pays for them
 pub roots_follow : {E : Type 0} (accepts : List ℕ → List ℕ → List ℕ → Bool) (Signs : List ℕ → List ℕ → Type 0) (h : Host) (room : Room) (worker session : ℕ) (request : PaidRoots) (contract : Kept) (revision : Revision)

@@ -1,5 +1,5 @@
 -- What is known of a read that isn't refused, and the answer to it.
-use Rattle.std.proofs.Common.{◌≡◌, ◌∙◌, ◌+◌, ◌*◌, ◌<◌, ◌≤◌, ◌^◌, ℕ, Bool, true, false, List, [], Result, Ok, Err, Some, IfOk, refl, sym, ap, subst, arith}
+use Rattle.std.proofs.Common.{◌≡◌, ◌*◌, ◌<◌, ◌≤◌, ◌^◌, ℕ, Bool, true, false, List, [], Result, Ok, Err, Some, IfOk, refl, subst, arith}
 use Rattle.std.specs.List.{sum_by}
 use Rattle.std.proofs.Math.Nat.{pow-le-pow_right}
 use Rattle.std.proofs.lemmas.Bool.{leb-true}
@@ -20,7 +20,6 @@ use Rattle.sia_host.specs.Answered.{Gives, Host, no_work}
 use Rattle.sia_host.specs.Paying.{IsRevised, open_now, paid_revision, unrefused}
 use Rattle.sia_host.specs.Reading.{IsRead, read_fault, read_payment, read_said}
 use Rattle.sia_host.proofs.Held.{follows_given}
-use Rattle.sia_host.proofs.Writable.{same_contract}
 
 -- a sector has at most 4 MiB
 pub sector_bound : (sector : ℕ) → ((power : ℕ) × (power ≤ 16) × (sector ≡ 64 * 2 ^ power)) → sector ≤ 4194304

@@ -1,11 +1,10 @@
 -- The least that fits is the first that fits of those in order.
-use Rattle.std.proofs.Common.{◌≡◌, ℕ, Bool, true, false, List, [], ◌∷◌, if◌then◌else◌, Option, Some, None, refl, sym, ap, ◌∙◌, ◌-◌, ◌+◌, ◌<◌, suc, zero, length, drop, get_or, arith, drop-cons, Ordering, Less, Equal, Greater}
+use Rattle.std.proofs.Common.{◌≡◌, ℕ, Bool, true, false, List, [], ◌∷◌, if◌then◌else◌, Option, Some, None, refl, sym, ap, ◌∙◌, ◌-◌, ◌<◌, suc, length, drop, get_or, arith, drop-cons, Ordering, Less, Equal, Greater}
 use Rattle.std.specs.List.{find, filter}
 use Rattle.std.proofs.lemmas.List.{drop_all}
 use Rattle.std.specs.Prelude.{◌&&◌}
 use Rattle.std.specs.Ordering.{nat_cmp, is_le, ordering_reverse}
 use Rattle.std.specs.Cmp.Lexicographic.{slice_cmp}
-use Rattle.std.specs.Cmp.{IsTotalOrder}
 use Rattle.std.proofs.lemmas.Cmp.{nat_list_cmp_total}
 use Rattle.sia_ledger.specs.Order.{ascending_by, put_by}
 use Rattle.sia_host.specs.Least.{is_up_to, lesser, least_by, least_with}

@@ -1,6 +1,6 @@
 -- What is known of a write that isn't refused.
 use Rattle.std.proofs.Common.{◌≡◌, ℕ, suc, ◌+◌, Bool, true, false, List, [], ◌∷◌, length, Result, Ok, Err, Option, Some, None, refl, sym, ap, ◌∙◌, arith}
-use Rattle.std.specs.Prelude.{◌&&◌, count_by, if◌then◌else◌}
+use Rattle.std.specs.Prelude.{count_by, if◌then◌else◌}
 use Rattle.std.specs.List.{flat_map}
 use Rattle.std.proofs.lemmas.List.Sums.{sum_by-append}
 use Rattle.sia_encoding.specs.Answer.{◌>>=◌, unless}

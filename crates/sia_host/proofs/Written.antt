@@ -1,5 +1,5 @@
 -- What a signed write makes of its contract's sectors, and the answer to it.
-use Rattle.std.proofs.Common.{◌≡◌, ◌∙◌, ◌+◌, ◌*◌, ◌<◌, ◌≤◌, ◌^◌, ℕ, Bool, true, false, List, [], ◌∷◌, ◌++◌, append_assoc, append-nil, length, map, Option, Some, None, Result, Ok, Err, IfOk, refl, sym, ap, subst, arith}
+use Rattle.std.proofs.Common.{◌≡◌, ◌∙◌, ◌*◌, ◌<◌, ◌≤◌, ℕ, Bool, true, false, List, [], ◌∷◌, ◌++◌, append_assoc, append-nil, length, map, Option, Some, None, Result, Ok, Err, IfOk, refl, sym, ap, subst, arith}
 use Rattle.std.specs.Prelude.{nat_lt}
 use Rattle.std.proofs.lemmas.Bool.{ltb-false}
 use Rattle.std.proofs.lemmas.List.{length-map}
@@ -12,8 +12,7 @@ use Rattle.sia_diff.proofs.Moves.{count_bound, length_after}
 use Rattle.sia_types.specs.declared.file_contracts.Revision.{Revision}
 use Rattle.sia_price.specs.Payments.{revision_with}
 use Rattle.sia_records.specs.declared.change.Change.{Change}
-use Rattle.sia_records.specs.declared.host_record.HostRecord.TheVariants as records
-use Rattle.sia_records.specs.Stored.{Stored, changes_of, step_of, stored_after}
+use Rattle.sia_records.specs.Stored.{step_of, stored_after}
 use Rattle.sia_records.specs.Writes.{Prepared, sectors_of, steps_of}
 use Rattle.sia_records.proofs.Roots.{roots_after}
 use Rattle.sia_records.proofs.Slots.{steps_again}
@@ -25,20 +24,20 @@ use Rattle.sia_commands.specs.declared.step.Room.{Room}
 use Rattle.sia_commands.specs.declared.step.Step.{Step}
 use Rattle.sia_kept.specs.State.{Kept, IsSound, IsStored, contract_among, revised_contract, root_in, roots_of}
 use Rattle.sia_kept.proofs.Sound.{found_stores}
-use Rattle.sia_host.specs.Answered.{Gives, Host, Work}
+use Rattle.sia_host.specs.Answered.{Gives, Host}
 use Rattle.sia_host.specs.Paying.{IsRevised, Payment, open_now, paid_revision, unpaid, unrefused}
-use Rattle.sia_host.specs.Writing.{IsWriteSigned, can_write, dropped, put_jobs, write_fault, write_payment, write_price, write_signed, write_work, written_changes, written_revision, written_roots}
+use Rattle.sia_host.specs.Writing.{IsWriteSigned, dropped, put_jobs, write_fault, write_payment, write_price, write_signed, write_work, written_changes, written_revision, written_roots}
 use Rattle.sia_host.proofs.Held.{follows_given}
 use Rattle.sia_host.proofs.Opened.{opened_among, unrefused_opened}
-use Rattle.sia_host.proofs.Writable.{can_be_done, fits_sectors, same_contract}
+use Rattle.sia_host.proofs.Writable.{can_be_done, fits_sectors}
 
 -- the contract that a paying revision names is the one about which the request is, and it stores what it has
-pub paid_one : (h : Host) (session : ℕ) (fault : Kept → Option ℕ) (c : Kept) (p : Payment) (size : ℕ) (root : List ℕ) (sector : ℕ) → IsSound sector h.state.contracts → unrefused fault (open_now h session) ≡ Ok c
-    → (k : Kept) → contract_among (paid_revision c p size root).parent h.state.contracts ≡ Some k → (k ≡ c) × IsStored sector c
+pub paid_one : (h : Host) (session : ℕ) (fault : Kept → Option ℕ) (c : Kept) (p : Payment) (size : ℕ) (root : List ℕ) (sector : ℕ) (host_key : List ℕ) → IsSound sector host_key h.state.contracts → unrefused fault (open_now h session) ≡ Ok c
+    → (k : Kept) → contract_among (paid_revision c p size root).parent h.state.contracts ≡ Some k → (k ≡ c) × IsStored sector host_key c
 unfolding revision_with
-paid_one h session fault c p size root sector sound is k found =
+paid_one h session fault c p size root sector host_key sound is k found =
     let there : contract_among c.id h.state.contracts ≡ Some c = opened_among h session c (unrefused_opened fault (open_now h session) c is) in
-    let stored : IsStored sector c = found_stores sector c.id h.state.contracts c sound.stored there in
+    let stored : IsStored sector host_key c = found_stores sector host_key c.id h.state.contracts c sound.stored there in
     let mine : contract_among c.id h.state.contracts ≡ Some k = subst (λ id. contract_among id h.state.contracts ≡ Some k) stored.parent found in
     let same : Some k ≡ Some c = sym mine ∙ there in
     let one : k ≡ c = (cc) in
@@ -67,54 +66,56 @@ count_written : (room : Room) (write : Prepared) (c : Kept) → length (stored_a
 count_written room write c = sym (length-map (stored_after c.sectors (written_changes room write)) root_in) ∙ ap length (roots_written room write c)
 
 -- so the revision that a write proposes stores what the write makes of the sectors
-revision_stores : (h : Host) (room : Room) (write : Prepared) (c : Kept) (renter host : List ℕ) → IsStored h.settings.sector c → is_fit (length c.sectors) (steps_of write) ≡ true
-    → IsStored h.settings.sector (revised_contract (written_revision h write c) renter host (written_changes room write) c)
+revision_stores : (h : Host) (room : Room) (write : Prepared) (c : Kept) (renter host : List ℕ) → IsStored h.settings.sector h.settings.host_key c → is_fit (length c.sectors) (steps_of write) ≡ true
+    → IsStored h.settings.sector h.settings.host_key (revised_contract (written_revision h write c) renter host (written_changes room write) c)
 unfolding revision_with
 revision_stores h room write c renter host stored fits =
     let many = count_written room write c in
     let few = few_written write c fits in
     record {
+      id = stored.id;
       parent = stored.parent;
+      address = stored.address;
       few = omega (arith, many, few);
       size = ap (λ n. h.settings.sector * n) (sym many);
       root = ap node_root_of (sym (roots_written room write c));
     }
 
 -- a write whose steps are fit by the contract that its revision names
-pub write_fits : (h : Host) (room : Room) (session : ℕ) (write : Prepared) (c : Kept) (size : ℕ) (root : List ℕ) (sector : ℕ) → IsSound sector h.state.contracts → unrefused (write_fault h room write) (open_now h session) ≡ Ok c
+pub write_fits : (h : Host) (room : Room) (session : ℕ) (write : Prepared) (c : Kept) (size : ℕ) (root : List ℕ) (sector : ℕ) (host_key : List ℕ) → IsSound sector host_key h.state.contracts → unrefused (write_fault h room write) (open_now h session) ≡ Ok c
     → (k : Kept) → contract_among (paid_revision c (write_payment write.request) size root).parent h.state.contracts ≡ Some k → is_fit (length k.sectors) (map step_of (written_changes room write)) ≡ true
-write_fits h room session write c size root sector sound is k found =
-    let one = paid_one h session (write_fault h room write) c (write_payment write.request) size root sector sound is k found in
+write_fits h room session write c size root sector host_key sound is k found =
+    let one = paid_one h session (write_fault h room write) c (write_payment write.request) size root sector host_key sound is k found in
     let fits : is_fit (length c.sectors) (steps_of write) ≡ true = fits_sectors h write c (can_be_done h room write (open_now h session) c is) in
     subst (λ (x : Kept). is_fit (length x.sectors) (map step_of (written_changes room write)) ≡ true) (sym one.0) (changes_fit room write (length c.sectors) fits)
 
 -- and that the contract then stores what it has
-pub write_stores : (h : Host) (room : Room) (session : ℕ) (write : Prepared) (c : Kept) (renter host : List ℕ) → IsSound h.settings.sector h.state.contracts → unrefused (write_fault h room write) (open_now h session) ≡ Ok c
+pub write_stores : (h : Host) (room : Room) (session : ℕ) (write : Prepared) (c : Kept) (renter host : List ℕ) → IsSound h.settings.sector h.settings.host_key h.state.contracts → unrefused (write_fault h room write) (open_now h session) ≡ Ok c
     → (k : Kept) → contract_among (written_revision h write c).parent h.state.contracts ≡ Some k
-    → IsStored h.settings.sector (revised_contract (written_revision h write c) renter host (written_changes room write) k)
+    → IsStored h.settings.sector h.settings.host_key (revised_contract (written_revision h write c) renter host (written_changes room write) k)
 write_stores h room session write c renter host sound is k found =
-    let one = paid_one h session (write_fault h room write) c (write_payment write.request) (h.settings.sector * length (written_roots c write)) (node_root_of (written_roots c write)) h.settings.sector sound is k found in
+    let one = paid_one h session (write_fault h room write) c (write_payment write.request) (h.settings.sector * length (written_roots c write)) (node_root_of (written_roots c write)) h.settings.sector h.settings.host_key sound is k found in
     let fits : is_fit (length c.sectors) (steps_of write) ≡ true = fits_sectors h write c (can_be_done h room write (open_now h session) c is) in
-    subst (λ (x : Kept). IsStored h.settings.sector (revised_contract (written_revision h write c) renter host (written_changes room write) x)) (sym one.0) (revision_stores h room write c renter host one.1 fits)
+    subst (λ (x : Kept). IsStored h.settings.sector h.settings.host_key (revised_contract (written_revision h write c) renter host (written_changes room write) x)) (sym one.0) (revision_stores h room write c renter host one.1 fits)
 
 -- so it may be made the contract's newest one: its changes are fit
-pub may_change : (h : Host) (room : Room) (session : ℕ) (write : Prepared) (c : Kept) (revision : Revision) (changes : List Change) → IsSound h.settings.sector h.state.contracts → unrefused (write_fault h room write) (open_now h session) ≡ Ok c
+pub may_change : (h : Host) (room : Room) (session : ℕ) (write : Prepared) (c : Kept) (revision : Revision) (changes : List Change) → IsSound h.settings.sector h.settings.host_key h.state.contracts → unrefused (write_fault h room write) (open_now h session) ≡ Ok c
     → revision ≡ written_revision h write c → changes ≡ written_changes room write
     → (k : Kept) → contract_among revision.parent h.state.contracts ≡ Some k → is_fit (length k.sectors) (map step_of changes) ≡ true
 may_change h room session write c revision changes sound is pays changed k found =
     let own : contract_among (written_revision h write c).parent h.state.contracts ≡ Some k = subst (λ (r : Revision). contract_among r.parent h.state.contracts ≡ Some k) pays found in
     ap (λ cs. is_fit (length k.sectors) (map step_of cs)) changed
-    ∙ write_fits h room session write c (h.settings.sector * length (written_roots c write)) (node_root_of (written_roots c write)) h.settings.sector sound is k own
+    ∙ write_fits h room session write c (h.settings.sector * length (written_roots c write)) (node_root_of (written_roots c write)) h.settings.sector h.settings.host_key sound is k own
 
 -- and the contract stores what it has
-pub may_store : (h : Host) (room : Room) (session : ℕ) (write : Prepared) (c : Kept) (revision : Revision) (changes : List Change) (renter host : List ℕ) → IsSound h.settings.sector h.state.contracts → unrefused (write_fault h room write) (open_now h session) ≡ Ok c
+pub may_store : (h : Host) (room : Room) (session : ℕ) (write : Prepared) (c : Kept) (revision : Revision) (changes : List Change) (renter host : List ℕ) → IsSound h.settings.sector h.settings.host_key h.state.contracts → unrefused (write_fault h room write) (open_now h session) ≡ Ok c
     → revision ≡ written_revision h write c → changes ≡ written_changes room write
-    → (k : Kept) → contract_among revision.parent h.state.contracts ≡ Some k → IsStored h.settings.sector (revised_contract revision renter host changes k)
+    → (k : Kept) → contract_among revision.parent h.state.contracts ≡ Some k → IsStored h.settings.sector h.settings.host_key (revised_contract revision renter host changes k)
 may_store h room session write c revision changes renter host sound is pays changed k found =
     let own : contract_among (written_revision h write c).parent h.state.contracts ≡ Some k = subst (λ (r : Revision). contract_among r.parent h.state.contracts ≡ Some k) pays found in
     let stored = write_stores h room session write c renter host sound is k own in
-    let with_changes = subst (λ (cs : List Change). IsStored h.settings.sector (revised_contract (written_revision h write c) renter host cs k)) (sym changed) stored in
-    subst (λ (r : Revision). IsStored h.settings.sector (revised_contract r renter host changes k)) (sym pays) with_changes
+    let with_changes = subst (λ (cs : List Change). IsStored h.settings.sector h.settings.host_key (revised_contract (written_revision h write c) renter host cs k)) (sym changed) stored in
+    subst (λ (r : Revision). IsStored h.settings.sector h.settings.host_key (revised_contract r renter host changes k)) (sym pays) with_changes
 
 -- the shelf has enough free slots
 

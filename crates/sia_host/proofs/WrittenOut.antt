@@ -128,7 +128,7 @@ write_changes_fit h room c write least can enough =
     (le-leb (length (written_changes room write)) 16 few) (ap (is_fit (length c.sectors)) (steps_again (steps_of write) room.free) ∙ fit) (write_takes_least h room write least enough)
 
 -- the revision that a write proposes is the one that its changes make
-written_expected : (h : Host) (room : Room) (c : Kept) (write : Prepared) → IsStored h.settings.sector c → written_revision h write c ≡ expected h c (write_payment write.request) (written_changes room write)
+written_expected : (h : Host) (room : Room) (c : Kept) (write : Prepared) → IsStored h.settings.sector h.settings.host_key c → written_revision h write c ≡ expected h c (write_payment write.request) (written_changes room write)
 unfolding after
 written_expected h room c write stored = by (written_changes room write) (sym (steps_again (steps_of write) room.free))
   where
@@ -146,18 +146,18 @@ not_false false is = (cc)
 
 -- a write that is signed and kept
 pub written_out : (accepts : List ℕ → List ℕ → List ℕ → Bool) (Signs : List ℕ → List ℕ → Type 0) (h : Host) (room : Room) (worker session : ℕ) (write : Prepared) (renter : List ℕ) (a : Reaction) (made : HostRecord)
-    → IsSound h.settings.sector h.state.contracts → HasLeast h room → IsWriteSigned accepts Signs h room worker session write renter a → a.made ≡ Some made → replays accepts h made ≡ true
+    → IsSound h.settings.sector h.settings.host_key h.state.contracts → HasLeast h room → IsWriteSigned accepts Signs h room worker session write renter a → a.made ≡ Some made → replays accepts h made ≡ true
 written_out accepts Signs h room worker session write renter a made sound least is some =
     let call : Call = record { worker = worker; session = session; kind = kind.WriteSign } in
     let p = write_payment write.request in
     let price = write_price write.request.actions in
-    held_out accepts h call (open_now h session) (write_fault h room write)
+    held_out (replays accepts h made ≡ true) h call (open_now h session) (write_fault h room write)
     (λ c b. IsRevised accepts Signs h room call c.id c.renter_key (written_revision h write c) renter (written_changes room write) write_signed (write_work room write c) b) a made
     (λ c opened fine revised.
     let first = past_one (not (can_write h c write)) BAD_ACTION (unpaid h c price p or_else broken (nat_lt (length room.free) (length (sectors_of write))) STORE_FULL) fine in
     let rest = both_none (unpaid h c price p) (broken (nat_lt (length room.free) (length (sectors_of write))) STORE_FULL) first.1 in
     let enough : length (sectors_of write) ≤ length room.free = ltb-false _ _ (not_broken (nat_lt (length room.free) (length (sectors_of write))) STORE_FULL rest.1) in
     let stored = opened_stores h session c sound opened in
-    revised_out accepts Signs h room call c.id c.renter_key (written_revision h write c) renter (written_changes room write) write_signed (write_work room write c) a made
+    revised_out (λ m. replays accepts h m ≡ true) accepts Signs h room call c.id c.renter_key (written_revision h write c) renter (written_changes room write) write_signed (write_work room write c) a made
     (λ host signed. paying_follows accepts h session c p (h.settings.sector * length (written_roots c write)) (node_root_of (written_roots c write)) renter host (written_changes room write) sound opened
     (paid_so h c price p rest.0) (write_changes_fit h room c write least (not_false (can_write h c write) first.0) enough) (written_expected h room c write stored) signed) revised some) is some

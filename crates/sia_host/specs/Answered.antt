@@ -1,9 +1,8 @@
 -- What a host is, and what it answers to a command: a reply, an event and at most one record (RHP2; the events and records are
 -- this project's own).
-use Rattle.std.specs.Prelude.{◌≡◌, ℕ, ◌+◌, ◌≤◌, List, [], ◌∷◌, ◌++◌, length, nat_lt, Bool, Option, Some, None, IsSome, Result, Ok, Err, vec_capacity}
+use Rattle.std.specs.Prelude.{◌≡◌, ℕ, ◌+◌, ◌≤◌, List, [], ◌++◌, length, nat_lt, Bool, Option, Some, None, IsSome, Result, Ok, Err, vec_capacity}
 use Rattle.std.specs.List.{count_by}
-use Rattle.std.specs.Option.{option_map, option_map_or, option_to_list}
-use Rattle.sia_encoding.specs.Codec.{Codec}
+use Rattle.std.specs.Option.{option_map, option_to_list}
 use Rattle.sia_types.specs.declared.settings.Settings.{Settings}
 use Rattle.sia_ledger.specs.Chain.{height}
 use Rattle.sia_records.specs.declared.host_record.HostRecord.{HostRecord}
@@ -11,7 +10,6 @@ use Rattle.sia_records.specs.HostRecords.{host_record}
 use Rattle.sia_commands.specs.declared.call.Call.{Call}
 use Rattle.sia_commands.specs.declared.codes.TheConstants.{WRONG_STATE, NO_CONTRACT}
 use Rattle.sia_commands.specs.declared.event.Event.{Event}
-use Rattle.sia_commands.specs.declared.event.Kind.{Kind}
 use Rattle.sia_commands.specs.declared.event.Outcome.{Outcome}
 use Rattle.sia_commands.specs.declared.event.Outcome.TheVariants as outcome
 use Rattle.sia_commands.specs.declared.reply.Reply.{Reply}

@@ -1,5 +1,5 @@
 -- What a host answers to one that comes or goes, and to one that asks for its settings (RHP2; siad's modules/negotiate.go).
-use Rattle.std.specs.Prelude.{ℕ, List, [], ◌∷◌, Option, Some, None}
+use Rattle.std.specs.Prelude.{ℕ, Option, Some, None}
 use Rattle.sia_rhp.specs.declared.answer.Answer.TheVariants as answer
 use Rattle.sia_commands.specs.declared.call.Call.{Call}
 use Rattle.sia_commands.specs.declared.codes.TheConstants.{WRONG_STATE}

@@ -1,5 +1,5 @@
 -- What a host answers to a block that is supplied, and to one that is to be reverted (siad's doc/Consensus.md).
-use Rattle.std.specs.Prelude.{ℕ, zero, suc, Bool, List, [], ◌∷◌, Option, Some, None, if◌then◌else◌}
+use Rattle.std.specs.Prelude.{ℕ, zero, suc, Bool, List, Option, Some, None, if◌then◌else◌}
 use Rattle.sia_types.specs.declared.block.Block.{Block}
 use Rattle.sia_rules.specs.declared.fault.BlockFault.{BlockFault}
 use Rattle.sia_rules.specs.declared.fault.BlockFault.TheVariants as block_fault

@@ -1,6 +1,6 @@
 -- What a host answers to one that asks for a sector of its contract, before it prepares a write or a read; and the sector's bytes in
 -- the reply. Nothing of RHP2 asks so: it is what a write or a read finds.
-use Rattle.std.specs.Prelude.{ℕ, List, [], Option, None, Some, Result, Ok, Err}
+use Rattle.std.specs.Prelude.{ℕ, List, [], None, Result, Ok, Err}
 use Rattle.sia_encoding.specs.Answer.{◌>>=◌}
 use Rattle.sia_commands.specs.declared.call.Call.{Call}
 use Rattle.sia_commands.specs.declared.codes.TheConstants.{BAD_ACTION, NO_SECTOR}
@@ -9,7 +9,6 @@ use Rattle.sia_commands.specs.declared.event.Outcome.TheVariants as outcome
 use Rattle.sia_commands.specs.declared.reply.Reply.TheVariants as reply
 use Rattle.sia_commands.specs.declared.want.Want.{Want}
 use Rattle.sia_commands.specs.declared.want.Want.TheVariants as wants
-use Rattle.sia_kept.specs.State.{Kept}
 use Rattle.sia_host.specs.Answered.{Reaction, Host, fetching, held_now, or_code, refused, worked}
 use Rattle.sia_host.specs.Paying.{open_now}
 use Rattle.sia_host.specs.Writing.{slot_at, slot_with}

@@ -1,6 +1,6 @@
 -- What a host answers to one that proposes to form a contract, and to one that signs it (RHP2; siad's modules/host and
 -- modules/negotiate.go; Sia whitepaper).
-use Rattle.std.specs.Prelude.{◌≡◌, ℕ, Bool, true, false, List, [], ◌∷◌, ◌++◌, map, nat_le, nat_lt, not, ◌&&◌, Option, Some, None, MatchOption, Result, Ok, Err}
+use Rattle.std.specs.Prelude.{◌≡◌, ℕ, Bool, true, false, List, [], nat_le, nat_lt, not, ◌&&◌, Option, Some, None, MatchOption, Result, Ok, Err}
 use Rattle.std.specs.List.{filter, list_any}
 use Rattle.std.specs.Str.{bytes_eq}
 use Rattle.sia_encoding.specs.Answer.{◌>>=◌, unless}
@@ -21,7 +21,6 @@ use Rattle.sia_forms.specs.declared.funding.Additions.{Additions}
 use Rattle.sia_forms.specs.Building.{finished}
 use Rattle.sia_forms.specs.Checks.{form_answer}
 use Rattle.sia_forms.specs.Choices.{AreAdded, worth_of}
-use Rattle.sia_records.specs.declared.host_record.HostRecord.{HostRecord}
 use Rattle.sia_records.specs.declared.host_record.HostRecord.TheVariants as records
 use Rattle.sia_commands.specs.declared.call.Call.{Call}
 use Rattle.sia_commands.specs.declared.codes.TheConstants.{BAD_CONTRACT, BAD_SIGNATURE, NO_FUNDS, STORE_FULL}

@@ -1,6 +1,6 @@
 -- Which contracts a host has to act for on the chain, and by what: a revision that is to be mined before the window, and the storage
 -- proof in the window (Sia whitepaper, "Storage proofs"; siad's modules/host).
-use Rattle.std.specs.Prelude.{◌≡◌, ℕ, ◌-◌, ◌/◌, Bool, true, false, List, [], ◌∷◌, find, length, nat_le, nat_lt, not, ◌==◌, ◌&&◌, ◌||◌, Option, Some, None, slice_index_or}
+use Rattle.std.specs.Prelude.{ℕ, ◌-◌, ◌/◌, Bool, false, List, [], ◌∷◌, find, length, nat_le, nat_lt, not, ◌==◌, ◌&&◌, ◌||◌, Option, slice_index_or}
 use Rattle.std.specs.List.{filter, list_any}
 use Rattle.std.specs.Option.{option_map, option_map_or, unwrap_or}
 use Rattle.std.specs.Ordering.{nat_cmp, is_lt}

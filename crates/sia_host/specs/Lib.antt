@@ -20,3 +20,4 @@ pub mod Replaying
 pub mod Marks
 pub mod Least
 pub mod Outbox
+pub mod Holding

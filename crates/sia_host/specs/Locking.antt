@@ -1,6 +1,6 @@
 -- What a host answers to one that asks for the lock of a contract, or gives it back (RHP2; siad's modules/negotiate.go; what is
 -- signed is this project's own).
-use Rattle.std.specs.Prelude.{ℕ, Bool, true, false, List, [], ◌∷◌, ◌++◌, codes, not, Option, Some, None, Result, Ok, Err}
+use Rattle.std.specs.Prelude.{ℕ, Bool, true, false, List, [], ◌++◌, codes, not, Option, Some, None, Result, Ok, Err}
 use Rattle.sia_blake.specs.Blake2b.{blake2b_256}
 use Rattle.sia_encoding.specs.Answer.{◌>>=◌, unless}
 use Rattle.sia_encoding.specs.Firsts.{broken}

@@ -20,7 +20,7 @@ use Rattle.sia_commands.specs.declared.step.Room.{Room}
 use Rattle.sia_commands.specs.declared.event.Outcome.TheVariants as outcome
 use Rattle.sia_kept.specs.Signing.{whole_hash}
 use Rattle.sia_kept.specs.State.{Kept, contract_among}
-use Rattle.sia_host.specs.Answered.{Reaction, Host, Work, held_now, lacks_room, next_height, no_work, or_code, refused, worked}
+use Rattle.sia_host.specs.Answered.{Reaction, Host, Work, held_now, lacks_room, next_height, or_code, refused, worked}
 
 -- the contract
 

@@ -1,6 +1,6 @@
 -- How what a host adds to a proposal is told: what is added, or the code of a refusal, but not want of memory. Nothing more of Sia
 -- stands here than in the judgement that it tells.
-use Rattle.std.specs.Prelude.{◌≡◌, ℕ, true, false, List, Result, Ok, Err}
+use Rattle.std.specs.Prelude.{◌≡◌, ℕ, true, false, Result, Ok, Err}
 use Rattle.sia_types.specs.declared.transaction.Transaction.{Transaction}
 use Rattle.sia_forms.specs.declared.funding.Additions.{Additions}
 use Rattle.sia_commands.specs.declared.codes.TheConstants.{BAD_CONTRACT}

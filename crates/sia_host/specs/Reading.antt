@@ -1,5 +1,5 @@
 -- What a host answers to one that reads parts of sectors, or roots of sectors (RHP2's read and sector roots).
-use Rattle.std.specs.Prelude.{◌≡◌, ℕ, ◌+◌, Bool, List, [], ◌∷◌, length, nat_lt, nat_le, not, ◌==◌, ◌||◌, Option, Some, None, Result, Ok, Err}
+use Rattle.std.specs.Prelude.{ℕ, ◌+◌, Bool, List, [], length, nat_lt, not, ◌==◌, ◌||◌, Option}
 use Rattle.std.specs.List.{list_all, sum_by}
 use Rattle.std.specs.Option.{is_some}
 use Rattle.sia_encoding.specs.Firsts.{broken, ◌or_else◌}
@@ -7,8 +7,6 @@ use Rattle.sia_range.specs.Ranges.{part_between, roots_outside}
 use Rattle.sia_price.specs.declared.priced.Priced.{Priced}
 use Rattle.sia_price.specs.declared.priced.Priced.TheVariants as priced
 use Rattle.sia_rhp.specs.declared.answer.Answer.TheVariants as answer
-use Rattle.sia_rhp.specs.declared.answer_bodies.ReadAnswer.{ReadAnswer}
-use Rattle.sia_rhp.specs.declared.answer_bodies.RootsAnswer.{RootsAnswer}
 use Rattle.sia_rhp.specs.declared.request_bodies.PaidRoots.{PaidRoots}
 use Rattle.sia_rhp.specs.declared.request_bodies.ReadRequest.{ReadRequest}
 use Rattle.sia_rhp.specs.declared.request_bodies.Section.{Section}

@@ -1,6 +1,6 @@
 -- What a host answers to one that proposes to renew its contract, and to one that signs it (RHP2; siad's modules/renter/proto/renew.go,
 -- there called renew and clear).
-use Rattle.std.specs.Prelude.{◌≡◌, ℕ, Bool, List, [], ◌∷◌, Option, Some, None, Result, Ok, Err}
+use Rattle.std.specs.Prelude.{◌≡◌, ℕ, Bool, List, ◌∷◌, Option, Some, None, Result}
 use Rattle.sia_encoding.specs.Answer.{◌>>=◌, unless}
 use Rattle.sia_encoding.specs.Firsts.{broken}
 use Rattle.sia_types.specs.declared.signature.Signature.{Signature}

@@ -8,6 +8,7 @@ use Rattle.sia_encoding.specs.declared.limits.TheConstants.{ACTIONS}
 use Rattle.sia_merkle.specs.Roots.{node_root_of}
 use Rattle.sia_diff.specs.DiffSteps.{after, is_fit}
 use Rattle.sia_types.specs.FileContracts.{revision as revision_codec}
+use Rattle.sia_types.specs.Transaction.{transaction}
 use Rattle.sia_types.specs.declared.coins.CoinOutput.{CoinOutput}
 use Rattle.sia_types.specs.declared.file_contracts.FileContract.{FileContract}
 use Rattle.sia_types.specs.declared.file_contracts.Revision.{Revision}
@@ -25,6 +26,8 @@ use Rattle.sia_records.specs.declared.host_record.HostRecord.{HostRecord}
 use Rattle.sia_records.specs.declared.host_record.HostRecord.TheVariants as records
 use Rattle.sia_records.specs.HostRecords.{host_record}
 use Rattle.sia_records.specs.Stored.{step_of}
+use Rattle.sia_commands.specs.declared.command.Command.{Command}
+use Rattle.sia_commands.specs.declared.command.Command.TheVariants as command
 use Rattle.sia_commands.specs.declared.step.Room.{Room}
 use Rattle.sia_kept.specs.State.{Kept, contract_among, is_among, is_free_slot, live_slots, roots_of, with_record}
 use Rattle.sia_host.specs.declared.phase.Phase.TheVariants as phase
@@ -137,10 +140,11 @@ replays accepts h (records.Formed renter_key tx) = formed_replays accepts h rent
 replays accepts h (records.Revised revision renter host done) = option_map_or (revises_contract accepts h revision renter done) (contract_among revision.parent h.state.contracts) false
 replays accepts h (records.Renewed tx) = renewed_replays accepts h tx tx.revisions
 
--- whether a record is of a renewal
-abbrev pub is_renewal : HostRecord → Bool
-is_renewal (records.Renewed tx) = true
-is_renewal other = false
+-- The transaction of a command that signs a renewal is of its type, as each is that was read: a hash has 32 bytes, and no number is
+-- above its bound. Nothing is asked of another command.
+abbrev pub IsTyped : Command → Type 0
+IsTyped (command.RenewSign tx renter) = (limit : ℕ) × transaction.fits limit tx
+IsTyped other = Unit {0}
 
 -- payloads
 

@@ -1,7 +1,6 @@
 -- A step that is taken back, since a disk failed: the event of the fault stands in the place of the step's own, and what is told of the
 -- chain and of the records is what was told before the step. Nothing of Sia stands here.
-use Rattle.std.specs.Prelude.{◌≡◌, ℕ, ◌-◌, ◌<◌, Bool, true, false, List, ◌++◌, length, map, drop, Option, Some, None}
-use Rattle.sia_ledger.specs.declared.sums.Sums.{Sums}
+use Rattle.std.specs.Prelude.{◌≡◌, ◌-◌, ◌<◌, Bool, true, false, List, ◌++◌, length, map, drop, Option, Some, None}
 use Rattle.sia_ledger.specs.Holdings.{sums_of, tip}
 use Rattle.sia_commands.specs.declared.event.Event.{Event}
 use Rattle.sia_commands.specs.declared.event.Kind.TheVariants as kind

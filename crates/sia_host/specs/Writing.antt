@@ -1,6 +1,6 @@
 -- What a host answers to one that asks for a sector, proposes a change of its contract's sectors, or signs it (RHP2's write
 -- actions; siad's Merkle diff proofs).
-use Rattle.std.specs.Prelude.{◌≡◌, ℕ, ◌*◌, ◌-◌, Bool, true, false, List, [], ◌∷◌, ◌++◌, length, map, drop, find, nat_lt, not, ◌&&◌, Option, Some, None, Result, Ok, Err, slice_get, slice_index_or}
+use Rattle.std.specs.Prelude.{◌≡◌, ℕ, ◌*◌, ◌-◌, Bool, true, false, List, [], ◌∷◌, ◌++◌, length, map, drop, find, nat_lt, not, ◌&&◌, Option, Some, None, slice_get, slice_index_or}
 use Rattle.std.specs.List.{count_by, sum_by}
 use Rattle.std.specs.Option.{option_map}
 use Rattle.std.specs.Str.{bytes_eq}

@@ -101,7 +101,7 @@ impl Core {
         signer: &G,
     ) -> Result<Step, AllocError>
         requires new { is_formed self.old request.transaction added ≡ false }
-        requires stored { (whole : Mined) → whole.contracts ≡ request.transaction.contracts → All (IsStored self.old.settings.sector) (formed_by self.old.settings.host_key request.renter_key whole [] whole.contracts) }
+        requires stored { (whole : Mined) → whole.contracts ≡ request.transaction.contracts → All (IsStored self.old.settings.sector self.old.settings.host_key) (formed_by self.old.settings.host_key request.renter_key whole [] whole.contracts) }
         ensures gives { IfOk result (λ step. Gives (FormsSigned C.verdict (G.Makes (G.public_key signer.now)) self.old room.now call request renter added) self.old step self.new) }
         ensures kept { OnErr result (self.new ≡ self.old) }
     {
@@ -128,7 +128,7 @@ impl Core {
         check: &C,
     ) -> Result<Step, AllocError>
         requires new { is_among (id_of tx 0) self.old.state.contracts ≡ false }
-        requires stored { All (IsStored self.old.settings.sector) (formed_by self.old.settings.host_key renter_key tx [] tx.contracts) }
+        requires stored { All (IsStored self.old.settings.sector self.old.settings.host_key) (formed_by self.old.settings.host_key renter_key tx [] tx.contracts) }
         ensures gives { IfOk result (λ step. IsReaction self.old (form_kept C.verdict self.old room.now call renter_key tx signatures) step self.new) }
         ensures kept { OnErr result (self.new ≡ self.old) }
     {
@@ -153,7 +153,7 @@ impl Core {
     ) -> Result<Step, AllocError>
         requires framed { framed ≡ record_payload (records.Formed renter_key.now tx) }
         requires new { is_among (id_of tx 0) self.old.state.contracts ≡ false }
-        requires stored { All (IsStored self.old.settings.sector) (formed_by self.old.settings.host_key renter_key.now tx [] tx.contracts) }
+        requires stored { All (IsStored self.old.settings.sector self.old.settings.host_key) (formed_by self.old.settings.host_key renter_key.now tx [] tx.contracts) }
         ensures gives { IfOk result (λ step. IsReaction self.old (form_unless self.old call renter_key.now tx signatures None) step self.new) }
         ensures kept { OnErr result (self.new ≡ self.old) }
     {

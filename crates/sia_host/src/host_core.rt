@@ -48,7 +48,7 @@ impl Model for Core {
 
     ghost view = { λ c. record { settings = c.settings; margin = c.margin; seed = c.log.seed; state = record { chain = c.ledger; contracts = c.contracts; count = c.records }; events = c.log.events; phase = c.phase } };
 
-    ghost invariant = { λ c. IsSound c.settings.sector c.contracts × (c.log.spoiled ≡ is_spoiled c.phase) × HasLast c.phase c.log.events };
+    ghost invariant = { λ c. IsSound c.settings.sector c.settings.host_key c.contracts × (c.log.spoiled ≡ is_spoiled c.phase) × HasLast c.phase c.log.events };
 }
 
 impl Core {
@@ -137,7 +137,7 @@ impl Core {
 
     /// What always holds of its contracts, told for the proof alone.
     pub(crate) fn tell_sound(&self)
-        ensures { IsSound self.now.settings.sector self.now.state.contracts }
+        ensures { IsSound self.now.settings.sector self.now.settings.host_key self.now.state.contracts }
     {
         let _margin = self.margin;
     }

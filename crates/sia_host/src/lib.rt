@@ -26,7 +26,10 @@
 //!   one a job that lacks the bytes of a sector. Each due contract has one ([`laws::due_jobs_are_made`]).
 //! - [`Core::replay`] answers true exactly where a payload of the journal is a record, spelled whole and without a rest, that follows on
 //!   what the host knows: some command would make it, whatever the settings and the room of its day. Then the host knows it; else all is
-//!   as before. What a command makes a record of replays, but for renewals of which this isn't shown ([`laws::records_replay`]).
+//!   as before. What a command makes a record of replays ([`laws::records_replay`]).
+//! - Between the event by which a session acquires a contract's lock and the one by which it gives it back or leaves, every record but a
+//!   block or a revert that names the contract is made by an event of that session, and another session's request for the lock that isn't
+//!   refused is told the holder's number ([`laws::locks_keep_others_out`]).
 //! - [`Core::spoil`] takes a step back that met a disk's fault, without memory: the event of the fault stands in the place of the step's own.
 //! - [`Core::rows`] has a row for each contract, by ascending identifiers.
 //! - [`Core::events`], [`Core::sums`], [`Core::tip`] and [`Core::records`] are those of the present host; once a step was taken back, the

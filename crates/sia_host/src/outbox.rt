@@ -138,7 +138,7 @@ impl Core {
     // A due contract with the storage proof that is asked for.
     fn due_now(&self, alloc: Global, contract: &KeptContract) -> Result<Option<Due>, AllocError>
         requires due { IsTrue (is_due self.now contract.now) }
-        requires stored { IsStored self.now.settings.sector contract.now }
+        requires stored { IsStored self.now.settings.sector self.now.settings.host_key contract.now }
         ensures exact { IfOk result (λ due. due ≡ due_now_so self.now contract.now) }
         ensures ready { IfOk result (λ due. IfSome due (λ d. IsAsked d.asked)) }
     {
@@ -163,7 +163,7 @@ impl Core {
         terms: &Terms,
     ) -> Result<AskedProof, AllocError>
         requires due { IsTrue (is_due_by self.now contract.now terms.now) }
-        requires stored { IsStored self.now.settings.sector contract.now }
+        requires stored { IsStored self.now.settings.sector self.now.settings.host_key contract.now }
         ensures exact { IfOk result (λ asked. asked ≡ asked_by_so self.now contract.now terms.now) }
         ensures ready { IfOk result (λ asked. IsAsked asked) }
     {

@@ -102,7 +102,7 @@ impl Core {
     ) -> Result<Additions, Refusal>
         ensures proposes { Proposes self.now tx.now (renew_judged self.now session tx.now) result }
         ensures held { IfOk result (λ _. IsSome (held_now self.now session)) }
-        ensures sound { IfOk result (λ added. (renter host : Sequence Signed) → IsSound self.now.settings.sector (after_renewal self.now.settings.host_key (finished tx.now added renter host) self.now.state.contracts tx.now.revisions)) }
+        ensures sound { IfOk result (λ added. (renter host : Sequence Signed) → IsSound self.now.settings.sector self.now.settings.host_key (after_renewal self.now.settings.host_key (finished tx.now added renter host) self.now.state.contracts tx.now.revisions)) }
     {
         let _known = &self.contracts;
         let collateral = self.renew_terms(alloc, session, tx)?;
@@ -142,7 +142,7 @@ impl Core {
         signer: &G,
     ) -> Result<Step, AllocError>
         requires held { IsSome (held_now self.old call.session) }
-        requires sound { (mine theirs : Sequence Signed) → IsSound self.old.settings.sector (after_renewal self.old.settings.host_key (finished tx added mine theirs) self.old.state.contracts tx.revisions) }
+        requires sound { (mine theirs : Sequence Signed) → IsSound self.old.settings.sector self.old.settings.host_key (after_renewal self.old.settings.host_key (finished tx added mine theirs) self.old.state.contracts tx.revisions) }
         ensures gives { IfOk result (λ step. Gives (RenewsSigned C.verdict (G.Makes (G.public_key signer.now)) self.old room.now call tx renter added) self.old step self.new) }
         ensures kept { OnErr result (self.new ≡ self.old) }
     {
@@ -168,7 +168,7 @@ impl Core {
         check: &C,
     ) -> Result<Step, AllocError>
         requires held { held_now self.old call.session ≡ Some held }
-        requires sound { IsSound self.old.settings.sector (after_renewal self.old.settings.host_key tx self.old.state.contracts tx.revisions) }
+        requires sound { IsSound self.old.settings.sector self.old.settings.host_key (after_renewal self.old.settings.host_key tx self.old.state.contracts tx.revisions) }
         ensures gives { IfOk result (λ step. IsReaction self.old (renew_kept_so C.verdict self.old room.now call tx signatures) step self.new) }
         ensures kept { OnErr result (self.new ≡ self.old) }
     {
@@ -193,7 +193,7 @@ impl Core {
     ) -> Result<Step, AllocError>
         requires framed { framed ≡ record_payload (records.Renewed tx) }
         requires held { held_now self.old call.session ≡ Some held }
-        requires sound { IsSound self.old.settings.sector (after_renewal self.old.settings.host_key tx self.old.state.contracts tx.revisions) }
+        requires sound { IsSound self.old.settings.sector self.old.settings.host_key (after_renewal self.old.settings.host_key tx self.old.state.contracts tx.revisions) }
         ensures gives { IfOk result (λ step. IsReaction self.old (renew_unless self.old call tx signatures None) step self.new) }
         ensures kept { OnErr result (self.new ≡ self.old) }
     {

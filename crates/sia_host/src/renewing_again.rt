@@ -47,7 +47,7 @@ impl Core {
         check: &C,
     ) -> Result<bool, AllocError>
         ensures follows { IfOk result (λ follows. follows ≡ renewed_replays C.verdict self.now tx.now tx.now.revisions) }
-        ensures sound { IfOk result (λ follows. follows ≡ true → IsSound self.now.settings.sector (after_renewal self.now.settings.host_key tx.now self.now.state.contracts tx.now.revisions)) }
+        ensures sound { IfOk result (λ follows. follows ≡ true → IsSound self.now.settings.sector self.now.settings.host_key (after_renewal self.now.settings.host_key tx.now self.now.state.contracts tx.now.revisions)) }
     {
         let [revision] = tx.revisions.as_slice() else {
             return Ok(false);

@@ -67,7 +67,7 @@ impl Core {
         check: &C,
     ) -> Result<Step, AllocError>
         requires fit { (c : Kept) → contract_among signed.revision.parent self.old.state.contracts ≡ Some c → IsTrue (is_fit (length c.sectors) (map step_of signed.changes)) }
-        requires stores { (c : Kept) → contract_among signed.revision.parent self.old.state.contracts ≡ Some c → IsStored self.old.settings.sector (revised_contract signed.revision signed.renter signed.host signed.changes c) }
+        requires stores { (c : Kept) → contract_among signed.revision.parent self.old.state.contracts ≡ Some c → IsStored self.old.settings.sector self.old.settings.host_key (revised_contract signed.revision signed.renter signed.host signed.changes c) }
         ensures gives { IfOk result (λ step. IsReaction self.old (revised_unless self.old call party.id reply (records.Revised signed.revision signed.renter signed.host signed.changes) (record { puts = work.puts; fetch = None; freed = work.freed }) (revising_fault_so C.verdict room.now party.renter_key signed.revision signed.renter (records.Revised signed.revision signed.renter signed.host signed.changes))) step self.new) }
         ensures kept { OnErr result (self.new ≡ self.old) }
     {
@@ -93,7 +93,7 @@ impl Core {
     ) -> Result<Step, AllocError>
         requires framed { framed ≡ record_payload (records.Revised signed.revision signed.renter signed.host signed.changes) }
         requires fit { (c : Kept) → contract_among signed.revision.parent self.old.state.contracts ≡ Some c → IsTrue (is_fit (length c.sectors) (map step_of signed.changes)) }
-        requires stores { (c : Kept) → contract_among signed.revision.parent self.old.state.contracts ≡ Some c → IsStored self.old.settings.sector (revised_contract signed.revision signed.renter signed.host signed.changes c) }
+        requires stores { (c : Kept) → contract_among signed.revision.parent self.old.state.contracts ≡ Some c → IsStored self.old.settings.sector self.old.settings.host_key (revised_contract signed.revision signed.renter signed.host signed.changes c) }
         ensures gives { IfOk result (λ step. IsReaction self.old (worked self.old call (Some id) outcome.Fine reply (Some (records.Revised signed.revision signed.renter signed.host signed.changes)) (record { puts = work.puts; fetch = None; freed = work.freed })) step self.new) }
         ensures kept { OnErr result (self.new ≡ self.old) }
     {

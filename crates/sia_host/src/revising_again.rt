@@ -65,7 +65,7 @@ impl Core {
     ) -> Result<bool, AllocError>
         ensures follows { IfOk result (λ follows. follows ≡ option_map_or (revises_contract C.verdict self.now signed.now.revision signed.now.renter signed.now.changes) (contract_among signed.now.revision.parent self.now.state.contracts) false) }
         ensures fit { IfOk result (λ follows. follows ≡ true → (c : Kept) → contract_among signed.now.revision.parent self.now.state.contracts ≡ Some c → IsTrue (is_fit (length c.sectors) (map step_of signed.now.changes))) }
-        ensures stores { IfOk result (λ follows. follows ≡ true → (c : Kept) → contract_among signed.now.revision.parent self.now.state.contracts ≡ Some c → IsStored self.now.settings.sector (revised_contract signed.now.revision signed.now.renter signed.now.host signed.now.changes c)) }
+        ensures stores { IfOk result (λ follows. follows ≡ true → (c : Kept) → contract_among signed.now.revision.parent self.now.state.contracts ≡ Some c → IsStored self.now.settings.sector self.now.settings.host_key (revised_contract signed.now.revision signed.now.renter signed.now.host signed.now.changes c)) }
     {
         match find_contract(&self.contracts, &signed.revision.parent) {
             None => Ok(false),

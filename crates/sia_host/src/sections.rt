@@ -78,7 +78,7 @@ impl Core {
         check: &C,
         signer: &G,
     ) -> Result<Step, AllocError>
-        requires stores { (c : Kept) → contract_among revision.parent self.old.state.contracts ≡ Some c → IsStored self.old.settings.sector (record c { newest = revision }) }
+        requires stores { (c : Kept) → contract_among revision.parent self.old.state.contracts ≡ Some c → IsStored self.old.settings.sector self.old.settings.host_key (record c { newest = revision }) }
         ensures gives { IfOk result (λ step. Gives (IsRevised C.verdict (G.Makes (G.public_key signer.now)) self.old room.now call party.id party.renter_key revision renter [] (λ host. reply.Said (answer.Read (record { signature = host; parts = parts }))) no_work) self.old step self.new) }
         ensures kept { OnErr result (self.new ≡ self.old) }
     {

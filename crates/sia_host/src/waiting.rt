@@ -42,7 +42,7 @@ impl Core {
         first: bool,
     ) -> Result<Option<&KeptContract>, AllocError>
         ensures exact { IfOk result (λ found. option_copied found ≡ next_after id.now first (due_contracts self.now)) }
-        ensures ready { IfOk result (λ found. IfSome (option_copied found) (λ c. IsTrue (is_due_so self.now c) × IsStored self.now.settings.sector c)) }
+        ensures ready { IfOk result (λ found. IfSome (option_copied found) (λ c. IsTrue (is_due_so self.now c) × IsStored self.now.settings.sector self.now.settings.host_key c)) }
     {
         let contracts = self.contracts.as_slice();
         let mut found = None;

@@ -82,7 +82,7 @@ impl Core {
         signer: &G,
     ) -> Result<Step, AllocError>
         requires fit { (c : Kept) → contract_among written.revision.parent self.old.state.contracts ≡ Some c → IsTrue (is_fit (length c.sectors) (map step_of written.changes)) }
-        requires stores { (host : Sequence ℕ) → (c : Kept) → contract_among written.revision.parent self.old.state.contracts ≡ Some c → IsStored self.old.settings.sector (revised_contract written.revision renter host written.changes c) }
+        requires stores { (host : Sequence ℕ) → (c : Kept) → contract_among written.revision.parent self.old.state.contracts ≡ Some c → IsStored self.old.settings.sector self.old.settings.host_key (revised_contract written.revision renter host written.changes c) }
         ensures gives { IfOk result (λ step. Gives (IsRevised C.verdict (G.Makes (G.public_key signer.now)) self.old room.now call party.id party.renter_key written.revision renter written.changes write_signed (record { puts = written.work.puts; fetch = None; freed = written.work.freed })) self.old step self.new) }
         ensures kept { OnErr result (self.new ≡ self.old) }
     {

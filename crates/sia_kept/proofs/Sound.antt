@@ -27,46 +27,46 @@ formed_apart host_key renter_key tx sectors (terms ∷ others) contracts are new
 
 -- a host stays sound with it, where it stores what it has
 pub sound_formed : (sector : ℕ) (host_key renter_key : List ℕ) (tx : Transaction) (old new : List Kept) (kept : Option Kept)
-    → IsSound sector old → is_among (contract_id tx 0) old ≡ false → All (IsStored sector) (formed_by host_key renter_key tx [] tx.contracts)
-    → option_to_list kept ≡ formed_by host_key renter_key tx [] tx.contracts → new ≡ old ++ option_to_list kept → IsSound sector new
+    → IsSound sector host_key old → is_among (contract_id tx 0) old ≡ false → All (IsStored sector host_key) (formed_by host_key renter_key tx [] tx.contracts)
+    → option_to_list kept ≡ formed_by host_key renter_key tx [] tx.contracts → new ≡ old ++ option_to_list kept → IsSound sector host_key new
 sound_formed sector host_key renter_key tx old new kept sound none stores is grown =
     let same : new ≡ old ++ formed_by host_key renter_key tx [] tx.contracts = grown ∙ ap (λ xs. old ++ xs) is in
     record {
       size = sound.size;
       apart = subst AreApart (sym same) (formed_apart host_key renter_key tx [] tx.contracts old sound.apart none);
-      stored = subst (λ xs. All (IsStored sector) xs) (sym same) (All-append (IsStored sector) old (formed_by host_key renter_key tx [] tx.contracts) sound.stored stores);
+      stored = subst (λ xs. All (IsStored sector host_key) xs) (sym same) (All-append (IsStored sector host_key) old (formed_by host_key renter_key tx [] tx.contracts) sound.stored stores);
     }
 
 -- each contract stores what it has, where the one that is changed does
-stored_changed : (sector : ℕ) (id : List ℕ) (f : Kept → Kept) (xs : List Kept) → AreApart xs → All (IsStored sector) xs
-    → ((c : Kept) → contract_among id xs ≡ Some c → IsStored sector (f c)) → All (IsStored sector) (changed_at id f xs)
-stored_changed sector id f [] are all so = All-nil (IsStored sector)
-stored_changed sector id f (x ∷ xs) are all so = cases (bytes_eq x.id id) refl (stored_changed sector id f xs are.1 (All-tail (IsStored sector) x xs all)) so
+stored_changed : (sector : ℕ) (host_key id : List ℕ) (f : Kept → Kept) (xs : List Kept) → AreApart xs → All (IsStored sector host_key) xs
+    → ((c : Kept) → contract_among id xs ≡ Some c → IsStored sector host_key (f c)) → All (IsStored sector host_key) (changed_at id f xs)
+stored_changed sector host_key id f [] are all so = All-nil (IsStored sector host_key)
+stored_changed sector host_key id f (x ∷ xs) are all so = cases (bytes_eq x.id id) refl (stored_changed sector host_key id f xs are.1 (All-tail (IsStored sector host_key) x xs all)) so
   where
-    cases : (b : Bool) → bytes_eq x.id id ≡ b → (((c : Kept) → contract_among id xs ≡ Some c → IsStored sector (f c)) → All (IsStored sector) (changed_at id f xs))
-        → ((c : Kept) → (if b then Some x else contract_among id xs) ≡ Some c → IsStored sector (f c)) → All (IsStored sector) ((if b then f x else x) ∷ changed_at id f xs)
+    cases : (b : Bool) → bytes_eq x.id id ≡ b → (((c : Kept) → contract_among id xs ≡ Some c → IsStored sector host_key (f c)) → All (IsStored sector host_key) (changed_at id f xs))
+        → ((c : Kept) → (if b then Some x else contract_among id xs) ≡ Some c → IsStored sector host_key (f c)) → All (IsStored sector host_key) ((if b then f x else x) ∷ changed_at id f xs)
     cases true at rest so =
         let none : is_among id xs ≡ false = subst (λ z. is_among z xs ≡ false) (same_bytes x.id id at) are.0 in
-        All-cons (IsStored sector) (f x) (changed_at id f xs) (so x refl) (subst (λ ys. All (IsStored sector) ys) (sym (unchanged id f xs none)) (All-tail (IsStored sector) x xs all))
-    cases false at rest so = All-cons (IsStored sector) x (changed_at id f xs) (All-head (IsStored sector) x xs all) (rest so)
+        All-cons (IsStored sector host_key) (f x) (changed_at id f xs) (so x refl) (subst (λ ys. All (IsStored sector host_key) ys) (sym (unchanged id f xs none)) (All-tail (IsStored sector host_key) x xs all))
+    cases false at rest so = All-cons (IsStored sector host_key) x (changed_at id f xs) (All-head (IsStored sector host_key) x xs all) (rest so)
 
 -- a host stays sound with a revision that stores what it makes of its contract's sectors
-pub sound_revised : (sector : ℕ) (revision : Revision) (renter host : List ℕ) (changes : List Change) (old : List Kept) → IsSound sector old
-    → ((c : Kept) → contract_among revision.parent old ≡ Some c → IsStored sector (revised_contract revision renter host changes c))
-    → IsSound sector (changed_at revision.parent (revised_contract revision renter host changes) old)
-sound_revised sector revision renter host changes old sound so =
+pub sound_revised : (sector : ℕ) (host_key : List ℕ) (revision : Revision) (renter host : List ℕ) (changes : List Change) (old : List Kept) → IsSound sector host_key old
+    → ((c : Kept) → contract_among revision.parent old ≡ Some c → IsStored sector host_key (revised_contract revision renter host changes c))
+    → IsSound sector host_key (changed_at revision.parent (revised_contract revision renter host changes) old)
+sound_revised sector host_key revision renter host changes old sound so =
     let f = revised_contract revision renter host changes in
-    record { size = sound.size; apart = apart_changed revision.parent f (λ c. refl) old sound.apart; stored = stored_changed sector revision.parent f old sound.apart sound.stored so }
+    record { size = sound.size; apart = apart_changed revision.parent f (λ c. refl) old sound.apart; stored = stored_changed sector host_key revision.parent f old sound.apart sound.stored so }
 
 -- a renewal of this contract leaves what stores the sectors: the old one nothing, and the new one those that pass on
 pub record PassesOn (sector : ℕ) (host_key : List ℕ) (tx : Transaction) (revision : Revision) (c : Kept) : Type 0 where
-  pub cleared : IsStored sector (cleared_by tx revision c)
-  pub renewed : All (IsStored sector) (formed_by host_key c.renter_key tx c.sectors tx.contracts)
+  pub cleared : IsStored sector host_key (cleared_by tx revision c)
+  pub renewed : All (IsStored sector host_key) (formed_by host_key c.renter_key tx c.sectors tx.contracts)
 
 -- a host stays sound with a renewal whose contract isn't known, and that passes the sectors on
-pub sound_renewed : (sector : ℕ) (host_key : List ℕ) (tx : Transaction) (old : List Kept) (revision : Revision) → IsSound sector old → is_among (contract_id tx 0) old ≡ false
+pub sound_renewed : (sector : ℕ) (host_key : List ℕ) (tx : Transaction) (old : List Kept) (revision : Revision) → IsSound sector host_key old → is_among (contract_id tx 0) old ≡ false
     → ((c : Kept) → contract_among revision.parent old ≡ Some c → PassesOn sector host_key tx revision c)
-    → IsSound sector (after_renewal host_key tx old (revision ∷ []))
+    → IsSound sector host_key (after_renewal host_key tx old (revision ∷ []))
 sound_renewed sector host_key tx old revision sound none passes = by (contract_among revision.parent old) refl
   where
     apart : AreApart (changed_at revision.parent (cleared_by tx revision) old)
@@ -75,24 +75,24 @@ sound_renewed sector host_key tx old revision sound none passes = by (contract_a
     new : is_among (contract_id tx 0) (changed_at revision.parent (cleared_by tx revision) old) ≡ false
     new = among_changed (contract_id tx 0) revision.parent (cleared_by tx revision) (λ c. refl) old ∙ none
 
-    stored : All (IsStored sector) (changed_at revision.parent (cleared_by tx revision) old)
-    stored = stored_changed sector revision.parent (cleared_by tx revision) old sound.apart sound.stored (λ c is. (passes c is).cleared)
+    stored : All (IsStored sector host_key) (changed_at revision.parent (cleared_by tx revision) old)
+    stored = stored_changed sector host_key revision.parent (cleared_by tx revision) old sound.apart sound.stored (λ c is. (passes c is).cleared)
 
-    by : (found : Option Kept) → contract_among revision.parent old ≡ found → IsSound sector (changed_at revision.parent (cleared_by tx revision) old ++ renewed_by host_key tx found)
-    by None is = subst (IsSound sector) (sym (append-nil (changed_at revision.parent (cleared_by tx revision) old))) (record { size = sound.size; apart = apart; stored = stored })
+    by : (found : Option Kept) → contract_among revision.parent old ≡ found → IsSound sector host_key (changed_at revision.parent (cleared_by tx revision) old ++ renewed_by host_key tx found)
+    by None is = subst (IsSound sector host_key) (sym (append-nil (changed_at revision.parent (cleared_by tx revision) old))) (record { size = sound.size; apart = apart; stored = stored })
     by (Some c) is = record {
       size = sound.size;
       apart = formed_apart host_key c.renter_key tx c.sectors tx.contracts (changed_at revision.parent (cleared_by tx revision) old) apart new;
-      stored = All-append (IsStored sector) (changed_at revision.parent (cleared_by tx revision) old) (formed_by host_key c.renter_key tx c.sectors tx.contracts) stored (passes c is).renewed;
+      stored = All-append (IsStored sector host_key) (changed_at revision.parent (cleared_by tx revision) old) (formed_by host_key c.renter_key tx c.sectors tx.contracts) stored (passes c is).renewed;
     }
 
 -- the contract that is found stores what it has
-pub found_stores : (sector : ℕ) (id : List ℕ) (xs : List Kept) (c : Kept) → All (IsStored sector) xs → contract_among id xs ≡ Some c → IsStored sector c
-found_stores sector id [] c all is = (cc)
-found_stores sector id (x ∷ xs) c all is = cases (bytes_eq x.id id) (found_stores sector id xs c (All-tail (IsStored sector) x xs all)) is
+pub found_stores : (sector : ℕ) (host_key id : List ℕ) (xs : List Kept) (c : Kept) → All (IsStored sector host_key) xs → contract_among id xs ≡ Some c → IsStored sector host_key c
+found_stores sector host_key id [] c all is = (cc)
+found_stores sector host_key id (x ∷ xs) c all is = cases (bytes_eq x.id id) (found_stores sector host_key id xs c (All-tail (IsStored sector host_key) x xs all)) is
   where
-    cases : (b : Bool) → (contract_among id xs ≡ Some c → IsStored sector c) → (if b then Some x else contract_among id xs) ≡ Some c → IsStored sector c
-    cases true later is = let same : x ≡ c = (cc) in subst (λ k. IsStored sector k) same (All-head (IsStored sector) x xs all)
+    cases : (b : Bool) → (contract_among id xs ≡ Some c → IsStored sector host_key c) → (if b then Some x else contract_among id xs) ≡ Some c → IsStored sector host_key c
+    cases true later is = let same : x ≡ c = (cc) in subst (λ k. IsStored sector host_key k) same (All-head (IsStored sector host_key) x xs all)
     cases false later is = later is
 
 -- a revision that changes no sector
@@ -108,6 +108,6 @@ unfolding is_fit counted_steps touched_places
 nothing_fits count few = rw (le-leb count CONTRACT_SECTORS few) (ap (λ places. nat_le (length places) TOUCHED_PLACES) (none_touched count (range_with_len 0 count)))
 
 -- what stores the sectors stores them after no change
-pub stored_same : (sector : ℕ) (revision : Revision) (renter host : List ℕ) (c : Kept) → IsStored sector (record c { newest = revision }) → IsStored sector (revised_contract revision renter host [] c)
+pub stored_same : (sector : ℕ) (host_key : List ℕ) (revision : Revision) (renter host : List ℕ) (c : Kept) → IsStored sector host_key (record c { newest = revision }) → IsStored sector host_key (revised_contract revision renter host [] c)
 unfolding stored_after
-stored_same sector revision renter host c stored = record { parent = stored.parent; few = stored.few; size = stored.size; root = stored.root }
+stored_same sector host_key revision renter host c stored = record { id = stored.id; parent = stored.parent; address = stored.address; few = stored.few; size = stored.size; root = stored.root }

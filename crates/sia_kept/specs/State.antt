@@ -11,7 +11,7 @@ use Rattle.sia_types.specs.declared.file_contracts.Revision.{Revision}
 use Rattle.sia_types.specs.declared.signature.Signature.{Signature}
 use Rattle.sia_types.specs.declared.transaction.Transaction.{Transaction}
 use Rattle.sia_ids.specs.Transactions.{contract_id}
-use Rattle.sia_forms.specs.Parties.{both_conditions}
+use Rattle.sia_forms.specs.Parties.{both_address, both_conditions}
 use Rattle.sia_ledger.specs.declared.params.Params.{Params}
 use Rattle.sia_ledger.specs.Chain.{Chain, begun, extended, shortened}
 use Rattle.sia_records.specs.declared.change.Change.{Change}
@@ -159,20 +159,23 @@ root_in sector = sector.root
 abbrev pub roots_of : Kept → List (List ℕ)
 roots_of c = map root_in c.sectors
 
--- The newest revision of a contract is of this contract, and stores its sectors, of which there are at most 65,536: it has so many
--- bytes, and the root over their roots.
-pub record IsStored (sector : ℕ) (c : Kept) : Type 0 where
+-- A contract's identifier is a hash. Its newest revision is of this contract, and has the unlock hash of its two parties' conditions,
+-- the renter's key and the host's, both required. It stores its sectors, of which there are at most 65,536: it has so many bytes, and
+-- the root over their roots.
+pub record IsStored (sector : ℕ) (host_key : List ℕ) (c : Kept) : Type 0 where
+  pub id : length c.id ≡ 32
   pub parent : c.newest.parent ≡ c.id
+  pub address : c.newest.address ≡ both_address c.renter_key host_key
   pub few : length c.sectors ≤ CONTRACT_SECTORS
   pub size : c.newest.size ≡ sector * length c.sectors
   pub root : c.newest.root ≡ node_root_of (roots_of c)
 
--- what holds of every host, by its sectors' size and its contracts: a sector has 64 bytes times a power of 2, up to 4 MiB; no two
--- contracts have one identifier; and the newest revision of each stores its sectors
-pub record IsSound (sector : ℕ) (contracts : List Kept) : Type 0 where
+-- what holds of every host, by its sectors' size, its key and its contracts: a sector has 64 bytes times a power of 2, up to 4 MiB; no
+-- two contracts have one identifier; and the newest revision of each is its two parties', and stores its sectors
+pub record IsSound (sector : ℕ) (host_key : List ℕ) (contracts : List Kept) : Type 0 where
   pub size : (power : ℕ) × (power ≤ 16) × (sector ≡ 64 * 2 ^ power)
   pub apart : AreApart contracts
-  pub stored : All (IsStored sector) contracts
+  pub stored : All (IsStored sector host_key) contracts
 
 -- the slots that have sectors
 abbrev pub live_slots : HostState → List ℕ

@@ -1,5 +1,5 @@
 -- What a session does for a body, where it gives no command.
-use Rattle.std.proofs.Common.{◌≡◌, ℕ, List, [], Option, Result, Ok, Err, refl, sym, ap, subst, ◌∙◌}
+use Rattle.std.proofs.Common.{◌≡◌, ℕ, List, [], Option, None, Some, Result, Ok, Err, refl, sym, ap, subst, ◌∙◌}
 use Rattle.std.specs.Prelude.{IsErr}
 use Rattle.sia_encoding.specs.Answer.{Answers}
 use Rattle.sia_types.specs.declared.signature.Signature.{Signature}
@@ -9,6 +9,7 @@ use Rattle.sia_rhp.specs.declared.request.Request.{Request}
 use Rattle.sia_rhp.specs.declared.request.Request.TheVariants as requests
 use Rattle.sia_rhp.specs.Messages.{message_in, message_told}
 use Rattle.sia_rhp.specs.Requests.{request}
+use Rattle.sia_commands.specs.declared.command.Command.{Command}
 use Rattle.sia_commands.specs.declared.stop.Stop.{Stop}
 use Rattle.sia_session.specs.declared.state.Done.{Done}
 use Rattle.sia_session.specs.declared.state.Kept.{Kept}
@@ -16,7 +17,7 @@ use Rattle.sia_session.specs.declared.state.State.{State}
 use Rattle.sia_session.specs.Acts.{Act}
 use Rattle.sia_session.specs.Replies.{state_before}
 use Rattle.sia_session.specs.Script.{Script, Follows}
-use Rattle.sia_session.specs.Talk.{answered, refused, request_in, signed_of, taken_of, unsigned}
+use Rattle.sia_session.specs.Talk.{answered, asks_in, refused, request_in, says, signed_of, signs, taken_of, unsigned}
 use Rattle.sia_session.specs.Told.{Grows}
 use Rattle.sia_session.proofs.Following.{none_more}
 
@@ -37,6 +38,16 @@ pub drops : (acts : Option (List Act)) (made : Kept) (before : State) (session :
     → ((signatures : List Signature) → asked ≡ requests.FormSign signatures → ⊥) → ((signature : List ℕ) → asked ≡ requests.WriteSign signature → ⊥) → ((signatures : List Signature) → asked ≡ requests.RenewSign signatures → ⊥)
     → Follows (unsigned before asked) result [] → Grows acts acts (Follows (signed_of made session asked) result)
 drops acts made before session asked result is form write renew follows = quietly acts (unsigned before asked) (signed_of made session asked) result (signed_other made session asked form write renew ∙ ap (λ b. unsigned b asked) (sym is)) follows
+
+-- signatures that aren't for what waits
+pub signs_none : (acts : Option (List Act)) (before : State) (session : ℕ) (asked : Option Command) (result : Result Done Stop) → asked ≡ None → Follows (says 4 before) result [] → Grows acts acts (Follows (signs before session asked) result)
+signs_none acts before session asked result none follows = quietly acts (says 4 before) (signs before session asked) result (ap (signs before session) none) follows
+
+-- signatures that are
+pub signs_some : (old new : Option (List Act)) (before : State) (session : ℕ) (asked : Option Command) (one : Command) (result : Result Done Stop) → asked ≡ Some one → Grows old new (Follows (asks_in before session one) result) → Grows old new (Follows (signs before session asked) result)
+signs_some old new before session asked one result some grows =
+    let P : Option Command → Type 0 = λ o. Grows old new (Follows (signs before session o) result) in
+    subst P (sym some) grows
 
 -- a body that is no request
 

@@ -145,7 +145,7 @@ some_leaves size whole =
     omega (arith, some, whole.2)
 
 -- what is handed out of a due contract is a job that lacks the bytes of a live slot
-due_terms : (h : Host) (c : Kept) (terms : Terms) → IsSound h.settings.sector h.state.contracts → Contains h.state.contracts c → 0 < length c.sectors → Contains (live_slots h.state) (due_by h c terms).slot
+due_terms : (h : Host) (c : Kept) (terms : Terms) → IsSound h.settings.sector h.settings.host_key h.state.contracts → Contains h.state.contracts c → 0 < length c.sectors → Contains (live_slots h.state) (due_by h c terms).slot
 due_terms h c terms sound has some =
     let count : length (roots_of c) ≡ length c.sectors = length-map c.sectors root_in in
     let place = (due_by h c terms).asked.place in
@@ -153,7 +153,7 @@ due_terms h c terms sound has some =
     subst (λ n. place < n) count (place_within (trigger_of h terms) c.id (length (roots_of c)) h.settings.sector (omega (arith, some, count)) (some_leaves h.settings.sector sound.size)) in
     has_live (due_by h c terms).slot h.state.contracts c has (slot_has c.sectors (get_or c.sectors place no_sector) (Contains-get_or c.sectors place no_sector within))
 
-pub due_works : (h : Host) (room : Room) (worker : ℕ) (id : List ℕ) (first : Bool) (a : Reaction) → IsSound h.settings.sector h.state.contracts → a ≡ due_reaction h worker id first → IsWork h room a
+pub due_works : (h : Host) (room : Room) (worker : ℕ) (id : List ℕ) (first : Bool) (a : Reaction) → IsSound h.settings.sector h.settings.host_key h.state.contracts → a ≡ due_reaction h worker id first → IsWork h room a
 due_works h room worker id first a sound = by (next_after id first (due_contracts h)) refl
   where
     call : Call

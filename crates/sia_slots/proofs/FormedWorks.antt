@@ -129,7 +129,7 @@ judged_forms h session tx collateral = by (open_now h session)
     by (Err code) is = (cc)
     by (Ok c) is = terms c (is_late h c) (renew_answer tx c.newest (settings_now h)) refl is
 
-renewed_works : (h : Host) (room : Room) (a : Reaction) (call : Call) (contract : Option (List ℕ)) (said : Reply) (tx : Transaction) (terms : FileContract) → IsSound h.settings.sector h.state.contracts → tx.contracts ≡ terms ∷ []
+renewed_works : (h : Host) (room : Room) (a : Reaction) (call : Call) (contract : Option (List ℕ)) (said : Reply) (tx : Transaction) (terms : FileContract) → IsSound h.settings.sector h.settings.host_key h.state.contracts → tx.contracts ≡ terms ∷ []
     → lacks_room room (records.Renewed tx) ≡ false → a ≡ worked h call contract outcome.Fine said (Some (records.Renewed tx)) no_work → IsWork h room a
 renewed_works h room a call contract said tx terms sound one fits is =
     keeps h room a said (event_of h call contract outcome.Fine (Some (records.Renewed tx))) (records.Renewed tx)
@@ -137,7 +137,7 @@ renewed_works h room a call contract said tx terms sound one fits is =
     (renewed_comes (ComesFrom (sectors_in h.state) []) h.settings.host_key h.state tx sound.apart (comes_itself (sectors_in h.state) []))
     (has_room room (records.Renewed tx) fits) is
 
-pub renew_works : (accepts : List ℕ → List ℕ → List ℕ → Bool) (Signs : List ℕ → List ℕ → Type 0) (h : Host) (room : Room) (worker session : ℕ) (tx : Transaction) (renter : List Signature) (a : Reaction) → IsSound h.settings.sector h.state.contracts
+pub renew_works : (accepts : List ℕ → List ℕ → List ℕ → Bool) (Signs : List ℕ → List ℕ → Type 0) (h : Host) (room : Room) (worker session : ℕ) (tx : Transaction) (renter : List Signature) (a : Reaction) → IsSound h.settings.sector h.settings.host_key h.state.contracts
     → IsRenewSigned accepts Signs h room worker session tx renter a → IsWork h room a
 renew_works accepts Signs h room worker session tx renter a sound is =
     proposed h call (held_now h session) tx (renew_judged h session tx) (RenewsSigned accepts Signs h room call tx renter) a

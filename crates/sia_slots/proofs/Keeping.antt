@@ -52,7 +52,7 @@ fit_takes h c done is =
     (bytes_eq-Decides taken (least_free (live_slots h.state) (length taken))).0 (right_of_and (nat_le (length done) ACTIONS && is_fit (length c.sectors) (map step_of done)) (takes_least h done) is)
 
 -- a revision
-revised_once : (h : Host) (revision : Revision) (renter host : List ℕ) (done : List Change) (c : Kept) → IsSound h.settings.sector h.state.contracts → NamedOnce (live_slots h.state) → contract_among revision.parent h.state.contracts ≡ Some c
+revised_once : (h : Host) (revision : Revision) (renter host : List ℕ) (done : List Change) (c : Kept) → IsSound h.settings.sector h.settings.host_key h.state.contracts → NamedOnce (live_slots h.state) → contract_among revision.parent h.state.contracts ≡ Some c
     → changes_fit h c done ≡ true → NamedOnce (live_slots (with_record h.settings.host_key h.state (records.Revised revision renter host done)))
 revised_once h revision renter host done c sound once there fit =
     let live = live_slots h.state in
@@ -91,7 +91,7 @@ renewed_forms accepts h tx (revision ∷ []) is = by (contract_among revision.pa
 renewed_forms accepts h tx (revision ∷ other ∷ others) is = (cc)
 
 -- any record
-pub keeps_once : (accepts : List ℕ → List ℕ → List ℕ → Bool) (h : Host) (made : HostRecord) → IsSound h.settings.sector h.state.contracts → NamedOnce (live_slots h.state) → replays accepts h made ≡ true
+pub keeps_once : (accepts : List ℕ → List ℕ → List ℕ → Bool) (h : Host) (made : HostRecord) → IsSound h.settings.sector h.settings.host_key h.state.contracts → NamedOnce (live_slots h.state) → replays accepts h made ≡ true
     → NamedOnce (live_slots (with_record h.settings.host_key h.state made))
 unfolding replays
 keeps_once accepts h (records.Block block) sound once follows = subst NamedOnce (sym (block_keeps h.settings.host_key h.state block).0) once

@@ -38,15 +38,15 @@ use Rattle.sia_slots.proofs.Recorded.{revised_comes, revised_pass}
 use Rattle.sia_slots.proofs.Working.{comes_itself, idle, keeps, makes}
 
 -- a revision that pays is of the contract that is open
-pub paid_found : (h : Host) (session : ℕ) (c : Kept) (p : Payment) (size : ℕ) (root : List ℕ) → IsSound h.settings.sector h.state.contracts → open_now h session ≡ Ok c
+pub paid_found : (h : Host) (session : ℕ) (c : Kept) (p : Payment) (size : ℕ) (root : List ℕ) → IsSound h.settings.sector h.settings.host_key h.state.contracts → open_now h session ≡ Ok c
     → contract_among (paid_revision c p size root).parent h.state.contracts ≡ Some c
 unfolding revision_with
 paid_found h session c p size root sound opened =
-    let stored : IsStored h.settings.sector c = opened_stores h session c sound opened in
+    let stored : IsStored h.settings.sector h.settings.host_key c = opened_stores h session c sound opened in
     ap (λ id. contract_among id h.state.contracts) stored.parent ∙ opened_among h session c opened
 
 -- a revision that stores what the newest one does
-unchanged_works : (h : Host) (room : Room) (session : ℕ) (call : Call) (c : Kept) (p : Payment) (renter host : List ℕ) (said : Reply) (a : Reaction) → IsSound h.settings.sector h.state.contracts → open_now h session ≡ Ok c
+unchanged_works : (h : Host) (room : Room) (session : ℕ) (call : Call) (c : Kept) (p : Payment) (renter host : List ℕ) (said : Reply) (a : Reaction) → IsSound h.settings.sector h.settings.host_key h.state.contracts → open_now h session ≡ Ok c
     → framed_length (records.Revised (paid_revision c p c.newest.size c.newest.root) renter host []) ≤ room.bytes
     → a ≡ worked h call (Some c.id) outcome.Fine said (Some (records.Revised (paid_revision c p c.newest.size c.newest.root) renter host [])) no_work → IsWork h room a
 unfolding counted_steps
@@ -59,7 +59,7 @@ unchanged_works h room session call c p renter host said a sound opened framed i
     framed is
 
 -- parts of sectors that are read
-pub read_works : (accepts : List ℕ → List ℕ → List ℕ → Bool) (Signs : List ℕ → List ℕ → Type 0) (h : Host) (room : Room) (worker session : ℕ) (read : Read) (a : Reaction) → IsSound h.settings.sector h.state.contracts
+pub read_works : (accepts : List ℕ → List ℕ → List ℕ → Bool) (Signs : List ℕ → List ℕ → Type 0) (h : Host) (room : Room) (worker session : ℕ) (read : Read) (a : Reaction) → IsSound h.settings.sector h.settings.host_key h.state.contracts
     → IsRead accepts Signs h room worker session read a → IsWork h room a
 read_works accepts Signs h room worker session read a sound is =
     let call : Call = record { worker = worker; session = session; kind = kind.Read } in
@@ -72,7 +72,7 @@ read_works accepts Signs h room worker session read a sound is =
     (λ host framed found. unchanged_works h room session call c p read.request.signature host (read_said read host) a sound opened framed found) signed) is
 
 -- roots that are told
-pub roots_work : (accepts : List ℕ → List ℕ → List ℕ → Bool) (Signs : List ℕ → List ℕ → Type 0) (h : Host) (room : Room) (worker session : ℕ) (request : PaidRoots) (a : Reaction) → IsSound h.settings.sector h.state.contracts
+pub roots_work : (accepts : List ℕ → List ℕ → List ℕ → Bool) (Signs : List ℕ → List ℕ → Type 0) (h : Host) (room : Room) (worker session : ℕ) (request : PaidRoots) (a : Reaction) → IsSound h.settings.sector h.settings.host_key h.state.contracts
     → AreRoots accepts Signs h room worker session request a → IsWork h room a
 roots_work accepts Signs h room worker session request a sound is =
     let call : Call = record { worker = worker; session = session; kind = kind.Roots } in
@@ -112,7 +112,7 @@ can_put h room c write fine =
     }
 
 -- a write that is signed and kept
-written_works : (h : Host) (room : Room) (session : ℕ) (call : Call) (c : Kept) (write : Prepared) (renter host : List ℕ) (a : Reaction) → IsSound h.settings.sector h.state.contracts → open_now h session ≡ Ok c
+written_works : (h : Host) (room : Room) (session : ℕ) (call : Call) (c : Kept) (write : Prepared) (renter host : List ℕ) (a : Reaction) → IsSound h.settings.sector h.settings.host_key h.state.contracts → open_now h session ≡ Ok c
     → CanPut h room c write → framed_length (records.Revised (written_revision h write c) renter host (written_changes room write)) ≤ room.bytes
     → a ≡ worked h call (Some c.id) outcome.Fine (write_signed host) (Some (records.Revised (written_revision h write c) renter host (written_changes room write))) (write_work room write c) → IsWork h room a
 written_works h room session call c write renter host a sound opened can framed is =
@@ -134,7 +134,7 @@ written_works h room session call c write renter host a sound opened can framed 
     framed is
 
 pub write_works : (accepts : List ℕ → List ℕ → List ℕ → Bool) (Signs : List ℕ → List ℕ → Type 0) (h : Host) (room : Room) (worker session : ℕ) (write : Prepared) (renter : List ℕ) (a : Reaction)
-    → IsSound h.settings.sector h.state.contracts → IsWriteSigned accepts Signs h room worker session write renter a → IsWork h room a
+    → IsSound h.settings.sector h.settings.host_key h.state.contracts → IsWriteSigned accepts Signs h room worker session write renter a → IsWork h room a
 write_works accepts Signs h room worker session write renter a sound is =
     let call : Call = record { worker = worker; session = session; kind = kind.WriteSign } in
     held h call (open_now h session) (write_fault h room write)

@@ -55,7 +55,7 @@ proposal_works h room call held tx judged said a works is =
 
 -- what any command leaves to be done
 pub answer_works : (accepts : List ℕ → List ℕ → List ℕ → Bool) (Signs : List ℕ → List ℕ → Type 0) (h : Host) (room : Room) (worker session : ℕ) (asked : Command) (a : Reaction)
-    → IsSound h.settings.sector h.state.contracts → IsAnswer accepts Signs h room worker session asked a → IsWork h room a
+    → IsSound h.settings.sector h.settings.host_key h.state.contracts → IsAnswer accepts Signs h room worker session asked a → IsWork h room a
 answer_works accepts Signs h room worker session command.Enter a sound is = idle h room a (enter_reaction h worker) refl refl is
 answer_works accepts Signs h room worker session command.Settings a sound is = idle h room a (settings_reaction h worker session) refl refl is
 answer_works accepts Signs h room worker session (command.Form request) a sound is =

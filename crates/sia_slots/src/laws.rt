@@ -17,7 +17,7 @@ use sia_edge::{SigCheck, Signer};
 
 /// What a sound host leaves to be done by an answer fits the room that the command found and what the host knows.
 pub fn answers_work<C: SigCheck, G: Signer>()
-    ensures { (key : List ℕ) (h : Host) (room : Room) (worker session : ℕ) (command : Command) (a : Reaction) → IsSound h.settings.sector h.state.contracts
+    ensures { (key : List ℕ) (h : Host) (room : Room) (worker session : ℕ) (command : Command) (a : Reaction) → IsSound h.settings.sector h.settings.host_key h.state.contracts
         → IsAnswer C.verdict (G.Makes key) h room worker session command a → IsWork h room a }
 {}
 
@@ -35,7 +35,7 @@ pub fn once_stays()
 
 /// A record that replays on what a sound host knows leaves no slot live twice, where none was.
 pub fn replays_keep_once<C: SigCheck>()
-    ensures { (h : Host) (made : HostRecord) → IsSound h.settings.sector h.state.contracts → NamedOnce (live_slots h.state) → replays C.verdict h made ≡ true
+    ensures { (h : Host) (made : HostRecord) → IsSound h.settings.sector h.settings.host_key h.state.contracts → NamedOnce (live_slots h.state) → replays C.verdict h made ≡ true
         → NamedOnce (live_slots (with_record h.settings.host_key h.state made)) }
 {}
 

@@ -1,4 +1,4 @@
-use Rattle.std.proofs.Common.{◌≡◌, [], get_or, sym, ap, ◌∙◌}
+use Rattle.std.proofs.Common.{[], sym, ap, ◌∙◌}
 use Rattle.std.specs.Prelude.{option_copied}
 use Rattle.sia_host.proofs.Placed.{found_at, missed_at}
 use Rattle.sia_host.proofs.outbox.signature_at.Goals as goal

@@ -1,5 +1,5 @@
 -- The contract's size fits its type.
-use Rattle.std.proofs.Common.{◌≡◌, ◌∙◌, ◌*◌, ◌≤◌, ap, arith, length}
+use Rattle.std.proofs.Common.{◌≡◌, ◌∙◌, ◌≤◌, ap, arith, length}
 use Rattle.std.proofs.Math.Nat.{mul-le-mul_left}
 use Rattle.sia_diff.specs.DiffSteps.{after}
 use Rattle.sia_kept.specs.State.{Kept, roots_of}

@@ -11,5 +11,5 @@ returns-clause-gives g c =
 pub form_whole-requires : goal.form_whole-requires
 form_whole-requires g c = record {
   new = added_new c.args.self.now c.args.request.transaction (form_judged c.args.self.now c.args.session c.args.request) c.in-Ok.added c.in-Ok.ensures;
-  stored = (λ whole same. formed_stored c.args.self.now c.args.session c.args.request c.in-Ok.added c.args.self.now.settings.sector c.args.self.now.settings.host_key whole c.in-Ok.ensures same);
+  stored = (λ whole same. formed_stored c.args.self.now c.args.session c.args.request c.in-Ok.added whole c.in-Ok.ensures same);
 }

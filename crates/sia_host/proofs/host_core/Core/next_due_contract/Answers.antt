@@ -1,4 +1,4 @@
-use Rattle.std.proofs.Common.{◌≡◌, ◌&&◌, ◌||◌, ℕ, ◌-◌, Bool, List, Option, All, drop, arith, sym, subst, ap, ◌∙◌}
+use Rattle.std.proofs.Common.{◌≡◌, ◌&&◌, ◌||◌, ℕ, Bool, List, Option, All, drop, arith, sym, subst, ap, ◌∙◌}
 use Rattle.std.specs.Prelude.{option_copied}
 use Rattle.std.specs.List.{filter}
 use Rattle.sia_host.specs.Jobs.{in_order, is_above, is_due, next_after, due_contracts}
@@ -39,5 +39,5 @@ returns-clause-exact c =
 
 pub returns-clause-ready : goal.returns-clause-ready
 returns-clause-ready c =
-    found_due c.args.self.now c.args.id.now c.args.first (option_copied c.loop-i.found) (subst (λ (h : Host). All (IsStored h.settings.sector) h.state.contracts) c.self.view_is c.self.invariant.0.stored)
+    found_due c.args.self.now c.args.id.now c.args.first (option_copied c.loop-i.found) (subst (λ (h : Host). All (IsStored h.settings.sector h.settings.host_key) h.state.contracts) c.self.view_is c.self.invariant.0.stored)
     (found_next c.args.self.now c.args.id.now c.args.first c.as_slice-contracts.result.now (option_copied c.loop-i.found) c.loop-i.i (omega arith) c.loop-i.invariant (c.as_slice-contracts.ensures ∙ ap (λ (h : Host). h.state.contracts) c.self.view_is))

@@ -1,4 +1,4 @@
-use Rattle.std.proofs.Common.{◌≡◌, ◌&&◌, ◌||◌, ℕ, ◌-◌, drop, arith, sym, ap, ◌∙◌}
+use Rattle.std.proofs.Common.{◌≡◌, ◌&&◌, ◌||◌, ℕ, drop, arith, sym, ap, ◌∙◌}
 use Rattle.std.specs.Prelude.{option_copied}
 use Rattle.std.specs.List.{filter}
 use Rattle.sia_host.specs.Jobs.{in_order, is_above, is_stale, next_after, stale_contracts}

@@ -1,10 +1,10 @@
 -- The read was judged, so that its parts follow, or the refusal.
-use Rattle.std.proofs.Common.{◌≡◌, ◌∙◌, [], ap, subst}
+use Rattle.std.proofs.Common.{◌≡◌, ◌∙◌, [], ap}
 use Rattle.sia_rhp.specs.declared.request_bodies.ReadRequest.{ReadRequest}
 use Rattle.sia_commands.specs.declared.call.Call.{Call}
 use Rattle.sia_commands.specs.declared.event.Kind.TheVariants as kind
 use Rattle.sia_kept.specs.State.{IsSound}
-use Rattle.sia_host.specs.Answered.{Host, no_work}
+use Rattle.sia_host.specs.Answered.{no_work}
 use Rattle.sia_host.specs.Paying.{IsRevised, open_now, paid_revision}
 use Rattle.sia_host.specs.Reading.{read_fault, read_payment, read_said}
 use Rattle.sia_host.proofs.Held.{refuses_so}
@@ -26,7 +26,7 @@ into_parts-parts-requires g c = (c.args.self.now.settings.sector, is_ready c.arg
 pub read_paid-requires : goal.read_paid-requires
 read_paid-requires g c =
     let h = c.args.self.now in
-    let sound : IsSound h.settings.sector h.state.contracts = c.tell_sound.ensures in
+    let sound : IsSound h.settings.sector h.settings.host_key h.state.contracts = c.tell_sound.ensures in
     let pays : c.in_ok-revision-in-Ok.revision ≡ paid_revision c.in-Ok.contract.now (read_payment c.args.read.request) c.in-Ok.contract.now.newest.size c.in-Ok.contract.now.newest.root =
     c.in_ok-revision-in-Ok.ensures ∙ ap (λ (r : ReadRequest). paid_revision c.in-Ok.contract.now (read_payment r) c.in-Ok.contract.now.newest.size c.in-Ok.contract.now.newest.root) c.request-request.ensures in
     record { stores = same_stores h (read_fault h c.args.read) c.in-Ok.contract.now (read_payment c.args.read.request) c.args.session c.in_ok-revision-in-Ok.revision sound c.in-Ok.ensures pays }

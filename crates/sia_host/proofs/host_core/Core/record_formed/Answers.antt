@@ -11,7 +11,7 @@ pub invariant_of-self-2 : goal.invariant_of-self-2
 invariant_of-self-2 c = (
   sound_formed c.self.inside.settings.sector c.self.inside.settings.host_key c.args.renter_key.now c.args.tx c.self.inside.contracts c.push_kept.new.contracts c.in_ok-kept.kept c.self.invariant.0
       (subst (λ (h : Host). is_among (id_of c.args.tx 0) h.state.contracts ≡ false) (sym c.self.view_is) c.requires.new)
-      (subst (λ (h : Host). All (IsStored h.settings.sector) (formed_by h.settings.host_key c.args.renter_key.now c.args.tx [] c.args.tx.contracts)) (sym c.self.view_is) c.requires.stored)
+      (subst (λ (h : Host). All (IsStored h.settings.sector h.settings.host_key) (formed_by h.settings.host_key c.args.renter_key.now c.args.tx [] c.args.tx.contracts)) (sym c.self.view_is) c.requires.stored)
       c.in_ok-kept.ensures c.in_ok-push_kept.ensures.ok,
   (reserved c.self.inside.phase c.self.inside.log c.reserve.new.self c.in_ok-reserve.ensures.ok c.self.invariant.1 c.self.invariant.2).spoiled,
   (reserved c.self.inside.phase c.self.inside.log c.reserve.new.self c.in_ok-reserve.ensures.ok c.self.invariant.1 c.self.invariant.2).last,
@@ -21,7 +21,7 @@ pub invariant_of-self-3 : goal.invariant_of-self-3
 invariant_of-self-3 c = (
   sound_formed c.self.inside.settings.sector c.self.inside.settings.host_key c.args.renter_key.now c.args.tx c.self.inside.contracts c.push_kept.new.contracts c.in_ok-kept.kept c.self.invariant.0
       (subst (λ (h : Host). is_among (id_of c.args.tx 0) h.state.contracts ≡ false) (sym c.self.view_is) c.requires.new)
-      (subst (λ (h : Host). All (IsStored h.settings.sector) (formed_by h.settings.host_key c.args.renter_key.now c.args.tx [] c.args.tx.contracts)) (sym c.self.view_is) c.requires.stored)
+      (subst (λ (h : Host). All (IsStored h.settings.sector h.settings.host_key) (formed_by h.settings.host_key c.args.renter_key.now c.args.tx [] c.args.tx.contracts)) (sym c.self.view_is) c.requires.stored)
       c.in_ok-kept.ensures c.in_ok-push_kept.ensures.ok,
   (noted_so c.self.inside.phase c.reserve.new.self c.note.new.self _ c.note.ensures (reserved c.self.inside.phase c.self.inside.log c.reserve.new.self c.in_ok-reserve.ensures.ok c.self.invariant.1 c.self.invariant.2)).spoiled,
   (noted_so c.self.inside.phase c.reserve.new.self c.note.new.self _ c.note.ensures (reserved c.self.inside.phase c.self.inside.log c.reserve.new.self c.in_ok-reserve.ensures.ok c.self.invariant.1 c.self.invariant.2)).last,

@@ -1,5 +1,5 @@
 -- Where there is a block and no room for the record, the journal is full.
-use Rattle.std.proofs.Common.{◌≡◌, ◌∙◌, ◌+◌, length, ℕ, zero, suc, Bool, true, false, List, None, Result, Ok, Err, IfOk, refl, sym, ap, subst}
+use Rattle.std.proofs.Common.{◌≡◌, ◌∙◌, ◌+◌, length, ℕ, zero, suc, Bool, true, None, IfOk, refl, sym, ap, subst}
 use Rattle.std.specs.Prelude.{nat_lt}
 use Rattle.sia_ledger.specs.Chain.{height}
 use Rattle.sia_records.specs.declared.host_record.HostRecord.TheVariants as records

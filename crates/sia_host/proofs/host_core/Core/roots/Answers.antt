@@ -1,9 +1,9 @@
 -- The request was judged, so that the roots follow, or the refusal.
-use Rattle.std.proofs.Common.{◌≡◌, [], subst}
+use Rattle.std.proofs.Common.{[]}
 use Rattle.sia_commands.specs.declared.call.Call.{Call}
 use Rattle.sia_commands.specs.declared.event.Kind.TheVariants as kind
 use Rattle.sia_kept.specs.State.{IsSound}
-use Rattle.sia_host.specs.Answered.{Host, no_work}
+use Rattle.sia_host.specs.Answered.{no_work}
 use Rattle.sia_host.specs.Paying.{IsRevised, open_now, paid_revision}
 use Rattle.sia_host.specs.Reading.{roots_fault, roots_payment, roots_said}
 use Rattle.sia_host.proofs.Held.{refuses_so}
@@ -28,7 +28,7 @@ tell_roots-requires g c =
 pub roots_paid-requires : goal.roots_paid-requires
 roots_paid-requires g c =
     let h = c.args.self.now in
-    let sound : IsSound h.settings.sector h.state.contracts = c.tell_sound.ensures in
+    let sound : IsSound h.settings.sector h.settings.host_key h.state.contracts = c.tell_sound.ensures in
     record { stores = same_stores h (roots_fault h c.args.request) c.in-Ok.contract.now (roots_payment c.args.request) c.args.session c.in_ok-revision-in-Ok.revision sound c.in-Ok.ensures c.in_ok-revision-in-Ok.ensures }
 
 pub returns-clause-gives : goal.returns-clause-gives

@@ -1,5 +1,5 @@
 -- The phase follows from what was noted.
-use Rattle.std.proofs.Common.{◌≡◌, ◌∙◌, ℕ, List, length, ap, subst, sym}
+use Rattle.std.proofs.Common.{◌∙◌, List, length, ap, subst, sym}
 use Rattle.std.specs.Prelude.{nat_lt}
 use Rattle.sia_commands.specs.declared.event.Event.{Event}
 use Rattle.sia_host.specs.Answered.{Gives, Host}

@@ -1,12 +1,8 @@
 -- The write was judged, so that what it comes to follows, or the refusal.
-use Rattle.std.proofs.Common.{◌≡◌, ◌∙◌, ◌*◌, ◌<◌, ◌^◌, ℕ, List, Some, subst, sym, ap, arith, length, map}
-use Rattle.sia_diff.specs.DiffSteps.{is_fit}
-use Rattle.sia_types.specs.declared.file_contracts.Revision.{Revision}
-use Rattle.sia_records.specs.declared.change.Change.{Change}
-use Rattle.sia_records.specs.Stored.{step_of}
+use Rattle.std.proofs.Common.{◌≡◌, ◌∙◌, subst, ap, arith}
 use Rattle.sia_commands.specs.declared.call.Call.{Call}
 use Rattle.sia_commands.specs.declared.event.Kind.TheVariants as kind
-use Rattle.sia_kept.specs.State.{IsSound, IsStored, Kept, contract_among, revised_contract}
+use Rattle.sia_kept.specs.State.{IsSound}
 use Rattle.sia_host.specs.Answered.{Host}
 use Rattle.sia_host.specs.Paying.{IsRevised, open_now}
 use Rattle.sia_host.specs.Writing.{write_fault, write_signed, write_work, written_changes, written_revision}
@@ -38,7 +34,7 @@ make_written-requires g c =
 pub write_paid-requires : goal.write_paid-requires
 write_paid-requires g c =
     let h = c.args.self.now in
-    let sound : IsSound h.settings.sector h.state.contracts = subst (λ (x : Host). IsSound x.settings.sector x.state.contracts) c.self.view_is c.self.invariant.0 in
+    let sound : IsSound h.settings.sector h.settings.host_key h.state.contracts = subst (λ (x : Host). IsSound x.settings.sector x.settings.host_key x.state.contracts) c.self.view_is c.self.invariant.0 in
     let pays : c.in_ok-written-in-Ok.written.revision ≡ written_revision h c.args.write c.in-Ok.contract.now =
     c.in_ok-written-in-Ok.ensures.revision ∙ ap (λ (x : Host). written_revision x c.args.write c.in-Ok.contract.now) c.self.view_is in
     record {

@@ -1,0 +1,4 @@
+pub mod Playing
+pub mod Missing
+pub mod MarkedLive
+pub mod OpenedBooks

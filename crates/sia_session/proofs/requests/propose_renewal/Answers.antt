@@ -1,0 +1,20 @@
+use Rattle.std.proofs.Common.{Err, refl}
+use Rattle.std.proofs.lemmas.Result.{err_from_is_err_and}
+use Rattle.sia_commands.specs.declared.command.Command.TheVariants as command
+use Rattle.sia_session.specs.declared.state.Kept.TheVariants as proposal
+use Rattle.sia_session.specs.Replies.{after_proposal}
+use Rattle.sia_session.specs.Script.{Follows}
+use Rattle.sia_session.specs.Talk.{asks}
+use Rattle.sia_session.proofs.Following.{alone_none, none_more}
+use Rattle.sia_session.proofs.requests.propose_renewal.Goals as goal
+
+pub returns-in_err-copy-clause-acts : goal.returns-in_err-copy-clause-acts
+returns-in_err-copy-clause-acts g c =
+    let p = err_from_is_err_and c.from_residual.result c.from_residual.ensures.1 in
+    rw p.1 (none_more (g.K.Desk.acts c.args.desk.now) (g.K.Desk.acts c.args.desk.now) (Follows (asks c.args.session (command.Renew c.args.tx) (after_proposal (proposal.Renew c.args.tx) c.args.state)) (Err p.0)) refl tt)
+
+pub returns-in_err-copy-clause-alone : goal.returns-in_err-copy-clause-alone
+returns-in_err-copy-clause-alone g c = alone_none g.K.Desk.stays g.K.Desk.stops g.K.Desk.sector c.args.desk.now g.met.K.Desk.stays_itself
+
+pub returns-clause-acts : goal.returns-clause-acts
+returns-clause-acts g c = rw (c.renewal-kept.ensures, c.in_ok-copy.ensures) at c.propose.ensures.acts

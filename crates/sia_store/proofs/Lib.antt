@@ -1,0 +1,4 @@
+pub mod Marking
+pub mod PutImages
+pub mod Pairing
+pub mod Freeing
