@@ -13,3 +13,4 @@ pub mod RevisedWorks
 pub mod FormedWorks
 pub mod Fetching
 pub mod Worked
+pub mod Apart

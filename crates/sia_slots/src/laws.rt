@@ -1,5 +1,5 @@
 //! Laws of a host's slots. The functions do nothing: their contracts are the laws.
-ghost use Rattle.std.specs.Prelude.{◌≡◌, ℕ, ◌<◌, Bool, List, true, if◌then◌else◌, length, take};
+ghost use Rattle.std.specs.Prelude.{◌≡◌, ℕ, ◌<◌, Bool, List, true, if◌then◌else◌, length, slice_index_or, take};
 ghost use Rattle.sia_records.specs.declared.host_record.HostRecord.{HostRecord};
 ghost use Rattle.sia_commands.specs.declared.command.Command.{Command};
 ghost use Rattle.sia_commands.specs.declared.step.Room.{Room};
@@ -43,4 +43,10 @@ pub fn replays_keep_once<C: SigCheck>()
 pub fn marks_are_free()
     ensures { (live : List ℕ) (marks : List Mark) → ((slot : ℕ) → slot < length marks → mark_of marks slot ≡ (if is_free_slot live slot then mark.Free else mark.Live))
         → free_slots marks ≡ free_below (length marks) live }
+{}
+
+/// No slot stands in a list twice just where none stands at two places of it.
+pub fn once_is_apart()
+    ensures { (slots : List ℕ) → (NamedOnce slots → (i j d : ℕ) → i < j → j < length slots → slice_index_or slots i d ≡ slice_index_or slots j d → ⊥)
+        × (((i j d : ℕ) → i < j → j < length slots → slice_index_or slots i d ≡ slice_index_or slots j d → ⊥) → NamedOnce slots) }
 {}

@@ -17,15 +17,16 @@
 //!   ([`laws::answers_work`]).
 //! - The first free slots of any shelf are the least free ones of the host ([`laws::rooms_have_least`]).
 //! - No slot is live twice where none was: not after slots that pass ([`laws::once_stays`]), nor after a record that replays
-//!   ([`laws::replays_keep_once`]). What is freed isn't live any more.
+//!   ([`laws::replays_keep_once`]). What is freed isn't live any more. That no slot stands in a list twice is said by counting, and by
+//!   places ([`laws::once_is_apart`]).
 //! - A shelf whose marks say which slots are live has the free slots that the host counts ([`laws::marks_are_free`]).
 //!
 //! # Stands on
 //!
 //! sia_host for answers and records that replay, sia_kept for contracts and their sectors, sia_records for changes, sia_commands for
 //! what is left to be done, sia_shelf for marks, sia_diff, sia_rhp and sia_merkle for steps, actions and roots, sia_edge for signatures,
-//! sia_ledger for which contracts are due, sia_ids and sia_prover for the leaf that is asked for, sia_forms for renewals, sia_types, sia_cover and sia_encoding for what
-//! these hold.
+//! sia_ledger for which contracts are due, sia_ids and sia_prover for the leaf that is asked for, sia_forms, sia_price and sia_rules for
+//! what is formed, renewed, paid and refused, sia_types, sia_cover and sia_encoding for what these hold.
 #![tactic(auto)]
 
 pub mod laws;
