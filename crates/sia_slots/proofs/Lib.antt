@@ -1,0 +1,16 @@
+pub mod Times
+pub mod Once
+pub mod Least
+pub mod Marks
+pub mod Passing
+pub mod Contracts
+pub mod Recorded
+pub mod Keeping
+pub mod Putting
+pub mod Parted
+pub mod Working
+pub mod RevisedWorks
+pub mod FormedWorks
+pub mod Fetching
+pub mod Worked
+pub mod Apart
