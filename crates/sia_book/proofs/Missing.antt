@@ -3,7 +3,7 @@ use Rattle.std.proofs.Common.{◌≡◌, ◌⊎◌, ⊎_elim, ℕ, ◌+◌, ◌<
 use Rattle.std.specs.List.{All, Contains}
 use Rattle.std.proofs.lemmas.Bool.{cases_lt, false≢true}
 use Rattle.std.proofs.lemmas.List.Elements.{All-push, Contains-append_left, Contains-append_right}
-use Rattle.sia_book.specs.Opening.{IsLeastMissing, is_missing, least_with}
+use Rattle.sia_book.specs.Opening.{IsLeastMissing, is_missing, least_missing_with}
 
 module _ (sector slots end : ℕ) where
   abbrev Missing : ℕ → Bool
@@ -14,7 +14,7 @@ module _ (sector slots end : ℕ) where
 
   -- with one slot more
   pub least_more : (front : List ℕ) (slot : ℕ) (missing : Bool) → Missing slot ≡ missing → (least : Option ℕ) → IsLeastMissing sector slots end front least
-      → IsLeastMissing sector slots end (front ++ slot ∷ []) (least_with least slot missing)
+      → IsLeastMissing sector slots end (front ++ slot ∷ []) (least_missing_with least slot missing)
   least_more front slot false is None none = All-push (λ s. Missing s ≡ false) front slot none is
   least_more front slot false is (Some least) one = (
     Contains-append_left front (slot ∷ []) least one.0,

@@ -14,12 +14,12 @@ use Rattle.sia_book.specs.declared.book.Book.{Book}
 use Rattle.sia_book.specs.declared.fault.OpenFault.{OpenFault}
 use Rattle.sia_book.specs.declared.fault.OpenFault.TheVariants as open_fault
 use Rattle.sia_book.specs.Opening.{BreaksOff, IsLeastMissing, Replayed}
-use Rattle.sia_book.specs.Books.{HEADER, BeginningCause, Breaks, IsOpened, OpeningCause, SameRun, TakesIn, journal_after, shelf_after}
+use Rattle.sia_book.specs.Books.{JOURNAL_HEADER, BeginningCause, Breaks, IsOpened, OpeningCause, SameRun, TakesIn, journal_after, shelf_after}
 use Rattle.sia_book.proofs.Playing.{still_holds}
 
 module _ {D : Type 0} (standing : D → Standing) (tells : Bool) (accepts : List ℕ → List ℕ → List ℕ → Bool) (config : HostConfig) (first core : Host) (disks : Disks D)
     (journal : Journal D) (shelf : ShelfState D) (renter : D) (is : core ≡ first)
-    (listed_so : IsTrue tells → HoldsListed HEADER config.journal_limit (standing disks.journal) (standing journal.disk))
+    (listed_so : IsTrue tells → HoldsListed JOURNAL_HEADER config.journal_limit (standing disks.journal) (standing journal.disk))
     (quiet : Quiet (standing disks.shelf) (standing shelf.disk)) where
   pub opened : (result : Result (Book D) (OpenFault × Disks D)) → journal.limit ≡ config.journal_limit → shelf.sector ≡ first.settings.sector → IsSettled (standing shelf.disk)
       → IfOk result (λ book. TakesIn standing tells accepts first.settings.sector config.slots (record { core = core; journal = journal; shelf = shelf; renter = renter }) book)
@@ -41,7 +41,7 @@ module _ {D : Type 0} (standing : D → Standing) (tells : Bool) (accepts : List
         made = λ told.
             let l = listed_so told in
             let M : Host → Type 0 = λ h. Replayed accepts h l.records book.core in
-            record { records = l.records; lists = l.lists; holds = still_holds HEADER l.records still l.holds; made = subst M is (takes.made told HEADER l.records l.holds) };
+            record { records = l.records; lists = l.lists; holds = still_holds JOURNAL_HEADER l.records still l.holds; made = subst M is (takes.made told JOURNAL_HEADER l.records l.holds) };
         shelf = subst S (sym same) quiet;
         stable = subst T (sym same) settled;
       }
@@ -55,10 +55,10 @@ module _ {D : Type 0} (standing : D → Standing) (tells : Bool) (accepts : List
       let l = listed_so told in
       let B : Result (List (List ℕ)) ℕ → Type 0 = λ r. Breaks accepts first config.journal_limit r at in
       let H : Host → Type 0 = λ h. BreaksOff accepts h l.records at in
-      subst B (sym l.lists) (subst H is (cause told HEADER l.records l.holds))
+      subst B (sym l.lists) (subst H is (cause told JOURNAL_HEADER l.records l.holds))
   caused (open_fault.Damaged at true) after time cause = λ told.
       let l = listed_so told in
-      let f = cause told HEADER l.records l.holds in
+      let f = cause told JOURNAL_HEADER l.records l.holds in
       let M : Host → Type 0 = λ h. Replayed accepts h l.records f.0 in
       let E : List ℕ → Type 0 = λ seen. IsLeastMissing first.settings.sector config.slots (length seen) (live_slots f.0.state) (Some f.1.slot) in
       record { records = l.records; lists = l.lists; after = f.0; made = subst M is f.1.made; slot = f.1.slot; least = subst E quiet.same f.1.least; begins = f.1.begins }

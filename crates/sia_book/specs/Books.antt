@@ -45,8 +45,8 @@ ReplayCause old new fault.Disk = Faulted old new
 ReplayCause old new (fault.Unfit at) = Unit {0}
 
 -- the header of a host's journal
-abbrev pub HEADER : List ℕ
-HEADER = label (codes "sia journal v1")
+abbrev pub JOURNAL_HEADER : List ℕ
+JOURNAL_HEADER = label (codes "sia journal v1")
 
 -- the settings of a host with this key, to which it is paid
 abbrev pub hosted : Settings → List ℕ → Settings
@@ -57,10 +57,10 @@ abbrev pub first_host : HostConfig → List ℕ → List ℕ → Host
 first_host config key seed = record { settings = hosted config.settings key; margin = config.margin; seed = seed; state = first_state config.params; events = []; phase = phase.Settled }
 
 -- the records that a journal's file lists make a host of the first one
-pub record IsMade (accepts : List ℕ → List ℕ → List ℕ → Bool) (first : Host) (limit : ℕ) (old new : Standing) (after : Host) : Type 0 where
+pub record MakesHost (accepts : List ℕ → List ℕ → List ℕ → Bool) (first : Host) (limit : ℕ) (old new : Standing) (after : Host) : Type 0 where
   pub records : List (List ℕ)
-  pub lists : listed HEADER limit old.seen ≡ Ok records
-  pub holds : Holds HEADER records new
+  pub lists : listed JOURNAL_HEADER limit old.seen ≡ Ok records
+  pub holds : Holds JOURNAL_HEADER records new
   pub made : Replayed accepts first records after
 
 -- A book that was opened: the journal holds the records that it listed, and the host is what these make; each slot that they name is whole
@@ -73,7 +73,7 @@ pub record IsOpened {D : Type 0} (standing : D → Standing) (tells : Bool) (acc
   pub settled : is_spoiled book.core.phase ≡ false
   pub marks : MarksLive (live_slots book.core.state) config.slots book.shelf.marks
   pub whole : All (λ (slot : ℕ). is_missing first.settings.sector config.slots (length (standing book.shelf.disk).seen) slot ≡ false) (live_slots book.core.state)
-  pub made : IsTrue tells → IsMade accepts first config.journal_limit (standing disks.journal) (standing book.journal.disk) book.core
+  pub made : IsTrue tells → MakesHost accepts first config.journal_limit (standing disks.journal) (standing book.journal.disk) book.core
   pub shelf : Quiet (standing disks.shelf) (standing book.shelf.disk)
   pub stable : IsSettled (standing book.shelf.disk)
 
@@ -85,7 +85,7 @@ Breaks accepts first limit (Ok records) at = BreaksOff accepts first records at
 -- a slot that the records name isn't whole on the shelf: the least such one begins there, as far as a number of 64 bits goes
 pub record LacksSlot (accepts : List ℕ → List ℕ → List ℕ → Bool) (first : Host) (config : HostConfig) (file : List ℕ) (end at : ℕ) : Type 0 where
   pub records : List (List ℕ)
-  pub lists : listed HEADER config.journal_limit file ≡ Ok records
+  pub lists : listed JOURNAL_HEADER config.journal_limit file ≡ Ok records
   pub after : Host
   pub made : Replayed accepts first records after
   pub slot : ℕ
@@ -97,7 +97,7 @@ abbrev pub OpeningCause : Bool → (List ℕ → List ℕ → List ℕ → Bool)
 OpeningCause tells accepts first config old_journal new_journal old_shelf new_shelf open_fault.Memory = Unit {0}
 OpeningCause tells accepts first config old_journal new_journal old_shelf new_shelf open_fault.Disk = Faulted old_journal new_journal ⊎ Faulted old_shelf new_shelf
 OpeningCause tells accepts first config old_journal new_journal old_shelf new_shelf (open_fault.Damaged at false) =
-    IsTrue tells → Breaks accepts first config.journal_limit (listed HEADER config.journal_limit old_journal.seen) at
+    IsTrue tells → Breaks accepts first config.journal_limit (listed JOURNAL_HEADER config.journal_limit old_journal.seen) at
 OpeningCause tells accepts first config old_journal new_journal old_shelf new_shelf (open_fault.Damaged at true) =
     IsTrue tells → LacksSlot accepts first config old_journal.seen (length old_shelf.seen) at
 
@@ -148,7 +148,7 @@ opened_disk (Err refused) = refused.1
 abbrev pub JournalCause : Bool → ℕ → Standing → Standing → OpenFault → Type 0
 JournalCause tells limit old new open_fault.Memory = Unit {0}
 JournalCause tells limit old new open_fault.Disk = Faulted old new
-JournalCause tells limit old new (open_fault.Damaged at false) = IsTrue tells → listed HEADER limit old.seen ≡ Err at
+JournalCause tells limit old new (open_fault.Damaged at false) = IsTrue tells → listed JOURNAL_HEADER limit old.seen ≡ Err at
 JournalCause tells limit old new (open_fault.Damaged at true) = ⊥
 
 -- why a shelf isn't opened

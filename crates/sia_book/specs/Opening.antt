@@ -33,10 +33,10 @@ abbrev pub is_missing : ℕ → ℕ → ℕ → ℕ → Bool
 is_missing sector slots end slot = not (nat_lt slot slots && nat_le (end_of sector slot) end)
 
 -- the least slot that is missing, with one more that may be
-abbrev pub least_with : Option ℕ → ℕ → Bool → Option ℕ
-least_with least slot false = least
-least_with None slot true = Some slot
-least_with (Some least) slot true = Some (min least slot)
+abbrev pub least_missing_with : Option ℕ → ℕ → Bool → Option ℕ
+least_missing_with least slot false = least
+least_missing_with None slot true = Some slot
+least_missing_with (Some least) slot true = Some (min least slot)
 
 -- The least of these slots that isn't whole on the shelf, or none where each is.
 abbrev pub IsLeastMissing : ℕ → ℕ → ℕ → List ℕ → Option ℕ → Type 0

@@ -10,7 +10,7 @@ ghost use Rattle.sia_shelf.specs.Shelf.{mark_of};
 ghost use Rattle.std.specs.List.{All};
 ghost use Rattle.sia_kept.specs.State.{live_slots};
 ghost use Rattle.sia_book.specs.Opening.{MarksLive, is_missing};
-ghost use Rattle.sia_book.specs.Books.{BeginningCause, opened_disk, renter_after, MissingCause, HEADER as HEADER_SO, IsOpened, JournalCause, OpeningCause, ShelfCause, TakesIn, TakingCause, first_host, journal_after, open_fault_of, shelf_after};
+ghost use Rattle.sia_book.specs.Books.{BeginningCause, opened_disk, renter_after, MissingCause, JOURNAL_HEADER, IsOpened, JournalCause, OpeningCause, ShelfCause, TakesIn, TakingCause, first_host, journal_after, open_fault_of, shelf_after};
 
 use crate::book::Book;
 use crate::fault::OpenFault;
@@ -75,10 +75,10 @@ fn open_journal<D: Disk>(alloc: Global, disk: D, limit: u64) -> Result<Journal<D
     requires high { limit ≤ 2 ^ 36 }
     ensures ready { IfOk result (λ journal. IsReady D.standing journal) }
     ensures limit { IfOk result (λ journal. journal.limit ≡ limit) }
-    ensures listed { IsTrue D.tells → IfOk result (λ journal. HoldsListed HEADER_SO limit (D.standing disk) (D.standing journal.disk)) }
+    ensures listed { IsTrue D.tells → IfOk result (λ journal. HoldsListed JOURNAL_HEADER limit (D.standing disk) (D.standing journal.disk)) }
     ensures time { TimePasses (D.standing disk) (D.standing (opened_disk result)) }
-    ensures crash { IsTrue D.tells → (records : Sequence (Sequence ℕ)) (payload : Sequence ℕ) → EachImage (MidAppend HEADER_SO limit records payload) (D.standing disk)
-        → Leaves (MidAppend HEADER_SO limit records payload) (D.standing disk) (D.standing (opened_disk result)) }
+    ensures crash { IsTrue D.tells → (records : Sequence (Sequence ℕ)) (payload : Sequence ℕ) → EachImage (MidAppend JOURNAL_HEADER limit records payload) (D.standing disk)
+        → Leaves (MidAppend JOURNAL_HEADER limit records payload) (D.standing disk) (D.standing (opened_disk result)) }
     ensures few { IsTrue D.tells → EachImage IsFew (D.standing disk) → Leaves IsFew (D.standing disk) (D.standing (opened_disk result)) }
     ensures cause { IfErr result (λ refused. JournalCause D.tells limit (D.standing disk) (D.standing refused.1) refused.0) }
 {
@@ -232,8 +232,8 @@ impl<D: Disk> Book<D> {
         ensures opened { IfOk result (λ book. IsOpened D.standing D.tells C.verdict config (first_host config key seed) disks book) }
         ensures renter { renter_after result ≡ disks.renter }
         ensures time { TimePasses (D.standing disks.journal) (D.standing (journal_after result)) }
-        ensures crash { IsTrue D.tells → (records : Sequence (Sequence ℕ)) (payload : Sequence ℕ) → EachImage (MidAppend HEADER_SO config.journal_limit records payload) (D.standing disks.journal)
-            → Leaves (MidAppend HEADER_SO config.journal_limit records payload) (D.standing disks.journal) (D.standing (journal_after result)) }
+        ensures crash { IsTrue D.tells → (records : Sequence (Sequence ℕ)) (payload : Sequence ℕ) → EachImage (MidAppend JOURNAL_HEADER config.journal_limit records payload) (D.standing disks.journal)
+            → Leaves (MidAppend JOURNAL_HEADER config.journal_limit records payload) (D.standing disks.journal) (D.standing (journal_after result)) }
         ensures none { IsTrue D.tells → EachImage IsFew (D.standing disks.journal) → Leaves IsFew (D.standing disks.journal) (D.standing (journal_after result)) }
         ensures cause { IfErr result (λ refused. OpeningCause D.tells C.verdict (first_host config key seed) config (D.standing disks.journal) (D.standing refused.1.journal) (D.standing disks.shelf) (D.standing refused.1.shelf) refused.0) }
     {

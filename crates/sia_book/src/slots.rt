@@ -3,7 +3,7 @@ ghost use Rattle.std.specs.Prelude.{◌≡◌, ◌^◌, ◌<◌, ◌≤◌, ℕ,
 ghost use Rattle.std.specs.List.{Contains};
 ghost use Rattle.sia_shelf.specs.Slots.{end_of};
 ghost use Rattle.sia_shelf.specs.Shelf.{mark_of};
-ghost use Rattle.sia_book.specs.Opening.{IsLeastMissing, MarksLive, is_missing as is_missing_so, least_with as least_with_so};
+ghost use Rattle.sia_book.specs.Opening.{IsLeastMissing, MarksLive, is_missing as is_missing_so, least_missing_with};
 
 use sia_edge::Disk;
 use sia_shelf::{Mark, Shelf};
@@ -33,7 +33,7 @@ pub(crate) fn least_missing(sector: u64, slots: u64, end: u64, live: &[u64]) -> 
 
 // The least slot that is missing, with one more that may be.
 fn least_with(least: Option<u64>, slot: u64, missing: bool) -> Option<u64>
-    ensures { result ≡ least_with_so least slot missing }
+    ensures { result ≡ least_missing_with least slot missing }
 {
     match least {
         None => missing.then_some(slot),

@@ -1,4 +1,4 @@
-//! Tests of sources, sinks, disks, journals, shelves and acts over both, a table for each theme: what no clause says of them,
+//! Tests of sources, sinks, disks, journals and shelves, a table for each theme: what no clause says of them,
 //! above all what the system does, and which bytes stand where.
 #![tactic(auto)]
 
@@ -12,5 +12,3 @@ mod edge_streams;
 mod journal_files;
 #[cfg(test)]
 mod shelf_sectors;
-#[cfg(test)]
-mod two_disks_acts;

@@ -19,7 +19,7 @@
 //!   slot that the opened records name holds what lies in it. After an act that is done both disks stand for the new list. The fault
 //!   names the disk whose count of faults rose.
 //! - [`put_all`] makes the slots of what it put live, and what other slots held stays, in every image. [`free_all`] makes live slots free.
-//! - None of them takes memory.
+//! - [`keep`], [`put_all`] and [`free_all`] take no memory. [`StoreFault`] names a disk.
 //!
 //! # Stands on
 //!

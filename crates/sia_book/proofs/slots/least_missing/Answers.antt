@@ -1,7 +1,7 @@
 use Rattle.std.proofs.Common.{◌≡◌, ◌+◌, ◌++◌, ◌∷◌, [], ℕ, List, Option, sym, subst, take}
 use Rattle.std.specs.Prelude.{slice_index_or}
 use Rattle.std.proofs.lemmas.List.{take_more, take_all}
-use Rattle.sia_book.specs.Opening.{IsLeastMissing, is_missing, least_with}
+use Rattle.sia_book.specs.Opening.{IsLeastMissing, is_missing, least_missing_with}
 use Rattle.sia_book.proofs.Missing.{least_more}
 use Rattle.sia_book.proofs.slots.least_missing.Goals as goal
 
@@ -11,6 +11,6 @@ loop-slot-preserved c =
     let live = c.args.live.now in
     let slot = slice_index_or live i 0 in
     let P : Option ℕ → Type 0 = λ least. IsLeastMissing c.args.sector c.args.slots c.args.end (take (i + 1) live) least in
-    let Q : List ℕ → Type 0 = λ l. IsLeastMissing c.args.sector c.args.slots c.args.end l (least_with c.loop-slot.least slot c.is_missing-missing.result) in
+    let Q : List ℕ → Type 0 = λ l. IsLeastMissing c.args.sector c.args.slots c.args.end l (least_missing_with c.loop-slot.least slot c.is_missing-missing.result) in
     subst P (sym c.least_with-least.ensures) (subst Q (sym (take_more live i 0 c.loop-slot-test.true))
     (least_more c.args.sector c.args.slots c.args.end (take i live) slot c.is_missing-missing.result (sym c.is_missing-missing.ensures) c.loop-slot.least c.loop-slot.invariant))
