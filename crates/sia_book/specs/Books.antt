@@ -1,4 +1,5 @@
--- A host on its disks: what stays the same when records are replayed, and why an opening is refused. Nothing of Sia stands here.
+-- A host on its disks: the host before its first record (siad's modules/host; its address is that of its one key), what stays the same when
+-- records are replayed, and why an opening is refused.
 use Rattle.std.specs.Prelude.{◌≡◌, ◌⊎◌, ℕ, ◌*◌, ◌^◌, ◌-◌, min, IsTrue, Bool, true, false, List, [], ◌∷◌, ◌++◌, length, codes, Option, Some, Result, Ok, Err}
 use Rattle.std.specs.List.{All}
 use Rattle.sia_edge.specs.Disk.{Standing, Faulted, IsSettled, Quiet}

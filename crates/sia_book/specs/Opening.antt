@@ -1,5 +1,5 @@
--- What a journal's records make of a host, and how an opening refuses them (siad's modules/host keeps its state in such a log; the form of
--- the records is this project's own).
+-- What a journal's records make of a host, and how an opening refuses them (siad's modules/host keeps the same
+-- of each contract; that it is told by a journal of records is this project's own).
 use Rattle.std.specs.Prelude.{◌≡◌, ℕ, ◌≤◌, Bool, true, false, not, min, ◌&&◌, nat_lt, nat_le, List, [], ◌∷◌, ◌++◌, length, Option, Some, None}
 use Rattle.std.specs.List.{All, Contains}
 use Rattle.sia_journal.specs.Listed.{place_after}

@@ -209,7 +209,7 @@ impl<D: Disk> Book<D> {
     }
 
     /// Opens a host's disks, where nothing else writes them: the host is what the records of the journal make of one that begins with this
-    /// configuration, key and seed, and there are no events. Each disk is synced first, and the journal's end is repaired. The limits and
+    /// configuration, key and seed, and there are no events. The journal and the shelf are synced first, and the journal's end is repaired. The limits and
     /// sizes are those of an accepted configuration. The check judges the signatures in the records.
     ///
     /// # Errors
@@ -231,6 +231,7 @@ impl<D: Disk> Book<D> {
         requires few { config.slots ≤ 2 ^ 20 }
         ensures opened { IfOk result (λ book. IsOpened D.standing D.tells C.verdict config (first_host config key seed) disks book) }
         ensures renter { renter_after result ≡ disks.renter }
+        ensures shelf { Quiet (D.standing disks.shelf) (D.standing (shelf_after result)) }
         ensures time { TimePasses (D.standing disks.journal) (D.standing (journal_after result)) }
         ensures crash { IsTrue D.tells → (records : Sequence (Sequence ℕ)) (payload : Sequence ℕ) → EachImage (MidAppend JOURNAL_HEADER config.journal_limit records payload) (D.standing disks.journal)
             → Leaves (MidAppend JOURNAL_HEADER config.journal_limit records payload) (D.standing disks.journal) (D.standing (journal_after result)) }

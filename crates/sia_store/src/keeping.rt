@@ -1,5 +1,5 @@
 //! A record is kept with its sectors.
-ghost use Rattle.std.specs.Prelude.{◌≡◌, ◌≤◌, ◌++◌, ◌∷◌, [], ◌⊎◌, ℕ, List, IsTrue, IfErr, OnOk, Ok, length, take};
+ghost use Rattle.std.specs.Prelude.{◌≡◌, ◌≤◌, ◌++◌, ◌∷◌, [], ◌⊎◌, ℕ, List, IsTrue, IfErr, OnOk, Ok, Err, length, take};
 ghost use Rattle.std.specs.List.{All};
 ghost use Rattle.sia_commands.specs.declared.step.PutJob.{PutJob as Put};
 ghost use Rattle.sia_edge.specs.Disk.{EachImage, Leaves, TimePasses};
@@ -36,6 +36,8 @@ pub fn keep<J: Disk, S: Disk>(
     ensures sector { shelf.new.sector ≡ shelf.old.sector }
     ensures count { length shelf.new.marks ≡ length shelf.old.marks }
     ensures marks { OnOk result (MarksPut (put_slots puts.now) shelf.old.marks shelf.new.marks) }
+    ensures unappended { result ≡ Err StoreFault.Shelf → journal.new ≡ journal.old }
+    ensures put { result ≡ Err StoreFault.Journal → MarksPut (put_slots puts.now) shelf.old.marks shelf.new.marks }
     ensures files { IsTrue J.tells → (header : List ℕ) (records : List (List ℕ)) → Holds header records (J.standing journal.old.disk)
         → Leaves (ListsEither header journal.old.limit records framed.now) (J.standing journal.old.disk) (J.standing journal.new.disk) }
     ensures pairs { IsTrue J.tells → IsTrue S.tells → (header : List ℕ) (lies : ℕ → List ℕ) (records : List (List ℕ)) (old new : List ℕ)

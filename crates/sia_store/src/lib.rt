@@ -13,13 +13,15 @@
 //!
 //! # Promises
 //!
-//! Both disks tell their bytes, and stood for some records before the act.
+//! What is said of pairs, images and bytes is said where both disks tell them. Before the act the disks stood for some records, the slots
+//! that these name were live, and with the new record they name no slot but those and the ones that are put.
 //!
 //! - [`keep`] leaves pairs, also where it answers an error, each of which opens as the records before or as those and the new one: each
-//!   slot that the opened records name holds what lies in it. After an act that is done both disks stand for the new list. The fault
-//!   names the disk whose count of faults rose.
-//! - [`put_all`] makes the slots of what it put live, and what other slots held stays, in every image. [`free_all`] makes live slots free.
-//! - [`keep`], [`put_all`] and [`free_all`] take no memory. [`StoreFault`] names a disk.
+//!   slot that the opened records name holds what lies in it. After an act that is done both disks stand for the new list, and the
+//!   slots that were put are live. The fault names the disk whose count of faults rose.
+//! - [`put_all`] that is done has each sector in its slot in every image, and makes these slots live. Done or not, what other slots held
+//!   stays in every image. [`free_all`] makes live slots free, and touches nothing else.
+//! - [`keep`], [`put_all`] and [`free_all`] never answer want of memory. [`StoreFault`] names the disk that failed.
 //!
 //! # Stands on
 //!

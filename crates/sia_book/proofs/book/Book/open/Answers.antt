@@ -1,3 +1,5 @@
+use Rattle.std.proofs.Common.{sym, subst}
+use Rattle.sia_edge.specs.Disk.{Quiet}
 use Rattle.sia_edge.proofs.Runs.{passes_on, quiet_run}
 use Rattle.sia_book.specs.Books.{first_host}
 use Rattle.sia_book.proofs.OpenedBooks.{opened, refused}
@@ -23,3 +25,8 @@ returns-in-Ok-open_journal-clause-crash g c = λ told records payload each. quie
 
 pub returns-in-Ok-open_journal-clause-none : goal.returns-in-Ok-open_journal-clause-none
 returns-in-Ok-open_journal-clause-none g c = λ told each. quiet_run (c.in-Ok-open_journal.ensures.few told each) c.begin.ensures.quiet
+
+pub returns-in-Ok-open_journal-clause-shelf : goal.returns-in-Ok-open_journal-clause-shelf
+returns-in-Ok-open_journal-clause-shelf g c =
+    let S : g.row.D.Denot → Type 0 = λ d. Quiet (g.D.Disk.standing c.args.disks.shelf) (g.D.Disk.standing d) in
+    subst S (sym c.begin.ensures.shelf) c.in-Ok-open_shelf.ensures.quiet
